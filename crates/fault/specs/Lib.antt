@@ -1,0 +1,4 @@
+pub mod Numbers
+pub mod Layers
+pub mod Faults
+pub mod Words

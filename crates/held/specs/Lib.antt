@@ -1,0 +1,5 @@
+pub mod Limits
+pub mod Rising
+pub mod Rows
+pub mod Regions
+pub mod HeldData

@@ -1,0 +1,6 @@
+// One reading of the register: what it showed at a boundary, which stands before the place of that number.
+#[derive(Clone, Copy, PartialEq, Eq, Debug)]
+pub struct Reading {
+    pub boundary: u16,
+    pub register: u32,
+}
