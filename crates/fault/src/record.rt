@@ -4,12 +4,12 @@ ghost use Rattle.std.specs.declared.option.Option.the-variants.{Some};
 ghost use Rattle.fault.specs.Faults.{faultAt};
 ghost use Rattle.fault.specs.Words.{faultLine};
 use crate::layer::Layer;
-use crate::refusal::Refusal;
-use std::fmt;
 use crate::layer::LayerDebug;
 use crate::layer::LayerPartialEq;
+use crate::refusal::Refusal;
 use crate::refusal::RefusalDebug;
 use crate::refusal::RefusalPartialEq;
+use std::fmt;
 
 #[derive(Clone, Copy, PartialEq, Eq, Debug)]
 pub struct Fault {

@@ -48,7 +48,8 @@ impl Refusal {
         ensures { λ r. ⌜ r ≡ layerOf self ⌝ }
     {
         match self {
-            Refusal::BlockMisshapen | Refusal::PulsesTooHigh | Refusal::ConditionUnknown => Layer::Block,
+            Refusal::BlockMisshapen | Refusal::PulsesTooHigh | Refusal::ConditionUnknown =>
+                Layer::Block,
             Refusal::ReferenceDaysUnfit | Refusal::PlaceWithoutWeight => Layer::Profile,
             Refusal::DeviceClockOff | Refusal::OtherMeterAnswered => Layer::Call,
             Refusal::LineUnreadable => Layer::Program,

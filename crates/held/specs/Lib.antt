@@ -3,3 +3,4 @@ pub mod Rising
 pub mod Rows
 pub mod Regions
 pub mod HeldData
+pub mod DataOf

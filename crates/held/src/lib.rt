@@ -4,9 +4,11 @@ pub mod reading;
 pub mod readings;
 pub mod register;
 pub mod usage;
+pub mod view;
 
 pub use cycle::Cycle;
 pub use reading::Reading;
 pub use readings::Readings;
 pub use register::Register;
 pub use usage::Usage;
+pub use view::Held;
