@@ -38,3 +38,24 @@ impl Arguments {
         Ok(Arguments { dialled, answered, clocks })
     }
 }
+
+#[cfg(test)]
+mod tests {
+    use super::*;
+    use std::test::*;
+
+    fn refused(words: &[Option<u32>]) -> bool {
+        match Arguments::from_words(words) {
+            Ok(_) => false,
+            Err(fault) => fault.refusal.number() == 27 && fault.position == 0 && fault.layer.number() == 5,
+        }
+    }
+
+    #[test]
+    fn five_numbers_are_read_and_nothing_else() -> Result<(), Fail> {
+        check(!refused(&[Some(1), Some(2), Some(3), Some(4), Some(5)]))?;
+        check(refused(&[]))?;
+        check(refused(&[Some(1), Some(2), Some(3), Some(4), None]))?;
+        check(refused(&[Some(1), Some(2), Some(3), Some(4), Some(5), Some(6)]))
+    }
+}

@@ -1,5 +1,4 @@
 // The steps of one call, each printed as it happens.
-ghost use mathlib.Core.Path.{_≡_};
 use crate::arguments::Arguments;
 use call::Identified;
 use call::Waiting;
@@ -12,7 +11,7 @@ use std::alloc::Global;
 use std::io;
 use std::io::Write;
 
-pub fn call_meter<W: Write>(out: &mut W, heap: Global, arguments: &Arguments, bytes: &[u8]) -> io::Result<()> {
+pub(crate) fn call_meter<W: Write>(out: &mut W, heap: Global, arguments: &Arguments, bytes: &[u8]) -> io::Result<()> {
     let waiting = Waiting::dial(arguments.dialled);
     let number = waiting.number();
     writeln!(out, "dialled {number}")?;
