@@ -4,6 +4,9 @@ ghost use lib.ListN.{take};
 ghost use Rattle.held.specs.Rising.{Rising};
 use crate::reading::Reading;
 
+pub mod regions;
+pub mod table;
+
 #[derive(Clone, Copy)]
 pub struct Readings {
     entries: [Reading; 32],

@@ -11,6 +11,8 @@ use crate::register::Register;
 use crate::usage::Usage;
 use delivery::Interval;
 
+pub mod regions;
+
 #[derive(Clone, Copy)]
 pub struct Held<'a> {
     pub cycle: Cycle,
