@@ -79,11 +79,11 @@ same-region n rs i j up h l =
 
 -- each place of the cycle lies in the region counted for it, and in no other
 pub region-covers : (n : ℕ) (rs : List Reading) (i : ℕ) → Rising rs → i < n → OnlyRegion n rs i (regionAt rs i)
-region-covers n rs i up h = (
-  omega (arith, region-at-most rs i),
-  (start-at-counted rs i (regionAt rs i) up (omega arith), end-past-counted n rs i (regionAt rs i) up h (omega arith)),
-  λ j b l. same-region n rs i j up b l,
-)
+region-covers n rs i up h = record {
+  known = omega (arith, region-at-most rs i);
+  lies = (start-at-counted rs i (regionAt rs i) up (omega arith), end-past-counted n rs i (regionAt rs i) up h (omega arith));
+  alone = λ j b l. same-region n rs i j up b l;
+}
 
 start-within : (n : ℕ) (rs : List Reading) (k : ℕ) → Within n rs → regionStart rs k ≤ n
 start-within n rs zero w = omega arith

@@ -12,9 +12,11 @@ use Rattle.held.specs.Regions.{regionCount, regionStart, regionEnd, inner, adv
 abbrev pub LiesIn : ℕ → List Reading → ℕ → ℕ → Type 0
 LiesIn n rs i k = (regionStart rs k ≤ i) × (i < regionEnd n rs k)
 
--- each place of the cycle lies in one region, and in no other
-abbrev pub OnlyRegion : ℕ → List Reading → ℕ → ℕ → Type 0
-OnlyRegion n rs i k = (k < regionCount rs) × LiesIn n rs i k × ((j : ℕ) → j < regionCount rs → LiesIn n rs i j → j ≡ k)
+-- place i lies in region k and in no other
+pub record OnlyRegion (n : ℕ) (rs : List Reading) (i k : ℕ) : Type 0 where
+  pub known : k < regionCount rs
+  pub lies : LiesIn n rs i k
+  pub alone : (j : ℕ) → j < regionCount rs → LiesIn n rs i j → j ≡ k
 
 -- a region begins before its end and ends within the cycle, the next one begins where it ends, and the last one ends
 -- with the cycle

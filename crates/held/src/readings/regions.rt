@@ -34,7 +34,7 @@ impl Readings {
     }
 
     pub fn region_start(&self, region: usize) -> usize
-        ensures place { λ r. ⌜ r ≡ regionStart (rows (now (self .entry))) region ⌝ }
+        ensures { λ r. ⌜ r ≡ regionStart (rows (now (self .entry))) region ⌝ }
     {
         if region == 0 {
             return 0;

@@ -6,7 +6,7 @@ ghost use Rattle.held.specs.HeldData.{places};
 ghost use Rattle.held.specs.DataOf.{dataOf};
 ghost use Rattle.held.specs.Regions.{regionStart, regionEnd, inner, regionAt, advance};
 ghost use Rattle.held.specs.RegionData.{regionIntervals};
-ghost use Rattle.held.specs.Laws.{OnlyRegion, Ordered};
+ghost use Rattle.held.specs.Laws.{Ordered};
 use crate::view::Held;
 use delivery::Interval;
 
@@ -20,15 +20,13 @@ impl<'a> Held<'a> {
     }
 
     pub fn region_of(&self, place: usize) -> usize
-        ensures count { λ r. ⌜ r ≡ regionAt (dataOf (now (self .entry)) .readings) place ⌝ }
-        ensures only { λ r. ⌜ (place < places (dataOf (now (self .entry))) → OnlyRegion (places (dataOf (now (self .entry)))) (dataOf (now (self .entry)) .readings) place r) ⌝ }
+        ensures { λ r. ⌜ r ≡ regionAt (dataOf (now (self .entry)) .readings) place ⌝ }
     {
         self.readings.region_of(place)
     }
 
     pub fn region_start(&self, region: usize) -> usize
-        ensures place { λ r. ⌜ r ≡ regionStart (dataOf (now (self .entry)) .readings) region ⌝ }
-        ensures forward { λ r. ⌜ r ≤ regionEnd (places (dataOf (now (self .entry)))) (dataOf (now (self .entry)) .readings) region ⌝ }
+        ensures { λ r. ⌜ r ≡ regionStart (dataOf (now (self .entry)) .readings) region ⌝ }
     {
         self.readings.region_start(region)
     }
