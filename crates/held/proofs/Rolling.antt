@@ -1,9 +1,9 @@
 -- A register that passes its last number begins again at 0: what its advance says of two readings.
 use mathlib.Core.Path.{_≡_, ap, _∙_}
-use mathlib.Core.Bool.{true, cond}
+use mathlib.Core.Bool.{true}
 use mathlib.Core.List.{List}
 use mathlib.Core.Logic.{⊎-elim}
-use Prim.Native.Nat.{ℕ, zero, suc, _+_, _-_, _*_, _%_, _^_, _≤_, _<_}
+use Prim.Native.Nat.{ℕ, _+_, _-_, _%_, _^_, _<_}
 use native.Mathlib.Nat.{mod-lt, mod-eq-of-lt, add-mod-mod, add-mod-right, one-le-pow}
 use native.Mathlib.Omega.{arith}
 use lib.Dec.{ltb}

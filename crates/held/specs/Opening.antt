@@ -1,7 +1,7 @@
 -- What opening with plain numbers gives: the numbers themselves within their limits, and else a refusal.
-use mathlib.Core.Bool.{Bool, cond, _&&_}
-use Prim.Native.Nat.{ℕ, _*_}
-use lib.Dec.{eqb, leb}
+use mathlib.Core.Bool.{cond}
+use Prim.Native.Nat.{ℕ}
+use lib.Dec.{eqb}
 use Rattle.std.specs.declared.option.Option.{Option}
 use Rattle.std.specs.declared.option.Option.the-variants.{Some, None}
 use Rattle.std.specs.declared.result.Result.{Result}
@@ -9,7 +9,7 @@ use Rattle.std.specs.declared.result.Result.the-variants.{Ok, Err}
 use Rattle.fault.specs.Faults.{faultAt}
 use Rattle.fault.specs.declared.record.Fault.{Fault}
 use Rattle.fault.specs.declared.refusal.Refusal.the-variants.{OpeningOutsideLimits}
-use Rattle.held.specs.Limits.{placesADayKnown, cycleLimits, registerLimits, usageLimits}
+use Rattle.held.specs.Limits.{cycleLimits, registerLimits, usageLimits}
 
 abbrev outside : {T : Type 0} → Result T Fault
 outside = Err (faultAt OpeningOutsideLimits 0)

@@ -5,6 +5,7 @@ use Rattle.std.specs.declared.option.Option.{Option}
 use Rattle.held.specs.declared.cycle.Cycle.{Cycle}
 use Rattle.held.specs.declared.register.Register.{Register}
 use Rattle.held.specs.declared.usage.Usage.{Usage}
+use Rattle.held.specs.DataOf.{pastOf}
 
 -- days, places a day, weekday of the first day
 abbrev pub cycleSizes : Cycle → ℕ × ℕ × ℕ
@@ -19,4 +20,4 @@ registerSizes g = (g .dials, g .«pulses_per_unit»)
 
 -- pulses, places they were counted over
 abbrev pub usageSizes : Option Usage → Option (ℕ × ℕ)
-usageSizes u = mapped (λ v. (v .pulses, v .places)) u
+usageSizes u = mapped pastOf u

@@ -1,10 +1,8 @@
-use mathlib.Core.Path.{_≡_, sym, ap, _∙_}
+use mathlib.Core.Path.{sym, ap, _∙_}
 use Prim.Native.Nat.{_*_}
 use native.Mathlib.Omega.{arith}
-use Rattle.std.specs.declared.result.Result.{Result}
 use Rattle.std.specs.declared.result.Result.the-variants.{Ok}
 use Rattle.held.specs.Rows.{rows}
-use Rattle.held.specs.Entering.{enteredRow}
 use Rattle.held.proofs.Entered.{entered-ok, entered-kept}
 use Rattle.held.proofs.readings.Readings.entered.Needs as need
 
