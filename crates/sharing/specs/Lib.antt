@@ -1,2 +1,4 @@
 pub mod Weights
 pub mod Shares
+pub mod Sharing
+pub mod Laws
