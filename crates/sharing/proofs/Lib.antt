@@ -1,2 +1,4 @@
 pub mod Running
 pub mod Places
+pub mod Turns
+pub mod Accepted

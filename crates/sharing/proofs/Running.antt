@@ -3,7 +3,7 @@ use mathlib.Core.List.{List, [], _∷_, _++_}
 use mathlib.Core.Logic.{_⊎_, inl, inr}
 use mathlib.Core.Path.{_≡_, refl, sym, ap, subst, _∙_}
 use Prim.Native.Nat.{ℕ, zero, suc, _+_, _-_, _*_, _/_, _≤_, _<_}
-use native.Mathlib.Nat.{add-zero, zero-add, add-assoc, add-mul, mul-add, mul-zero, zero-mul, mul-le-mul-left, mul-div-cancel, div-zero, zero-div, sub-self, div-mul-le-self, lt-div-mul-add}
+use native.Mathlib.Nat.{add-zero, zero-add, add-assoc, add-mul, mul-add, mul-zero, zero-mul, mul-le-mul-left, mul-div-cancel, div-zero, zero-div, sub-self, div-mul-le-self, lt-div-mul-add, div-le-of-le-mul, mul-comm}
 use native.Mathlib.Numerals.{add-one}
 use native.Mathlib.Omega.{arith}
 use lib.ListN.{length, getD, take, drop}
@@ -16,6 +16,9 @@ use Rattle.sharing.specs.Laws.{Near, Shared}
 pub running-mono : (X Y S T : ℕ) → S ≤ T → running X Y S ≤ running X Y T
 running-mono X zero S T h = simp div-zero (omega arith)
 running-mono X (suc y) S T h = le-div (X * S / suc y) (X * T) (suc y) (omega arith) (omega (arith, div-mul-le-self (X * S) (suc y), mul-le-mul-left X h))
+
+pub running-le : (X Y S : ℕ) → S ≤ Y → running X Y S ≤ X
+running-le X Y S h = div-le-of-le-mul Y (omega (arith, mul-le-mul-left X h, mul-comm X Y))
 
 pub running-none : (X Y : ℕ) → running X Y 0 ≡ 0
 running-none X Y = rw mul-zero (zero-div Y)

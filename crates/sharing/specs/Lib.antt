@@ -1,4 +1,5 @@
 pub mod Weights
+pub mod Weighing
 pub mod Shares
 pub mod Sharing
 pub mod Laws

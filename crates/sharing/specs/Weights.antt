@@ -27,7 +27,7 @@ abbrev pub weights : (ℕ → Option (ℕ × ℕ)) → ℕ → List State → Li
 weights P i [] = []
 weights P i (s ∷ ss) = cond (isOpen s) (weightOf (P i)) 0 ∷ weights P (i + 1) ss
 
-abbrev orElse : Option (ℕ × ℕ) → ℕ → Option ℕ → Option ℕ
+abbrev pub orElse : Option (ℕ × ℕ) → ℕ → Option ℕ → Option ℕ
 orElse None i later = Some i
 orElse (Some a) i later = later
 

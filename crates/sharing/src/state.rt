@@ -1,4 +1,7 @@
 // What the book has found out about a place.
+ghost use mathlib.Core.Path.{_≡_};
+ghost use Rattle.sharing.specs.Weights.{openStatus};
+
 #[derive(Clone, Copy, PartialEq, Eq, Debug)]
 pub enum Status {
     Raw,
@@ -6,6 +9,18 @@ pub enum Status {
     Verified,
     Open,
     Estimated,
+}
+
+impl Status {
+    // Whether the place still waits for a value: only an estimate or a verification can give it one.
+    pub fn is_open(self) -> bool
+        ensures { λ r. ⌜ r ≡ openStatus self ⌝ }
+    {
+        match self {
+            Status::Open => true,
+            Status::Raw | Status::Measured | Status::Verified | Status::Estimated => false,
+        }
+    }
 }
 
 #[derive(Clone, Copy, PartialEq, Eq, Debug)]
