@@ -20,7 +20,7 @@ use Rattle.fault.specs.Faults.{faultAt}
 use Rattle.sharing.specs.declared.state.State.{State}
 use Rattle.sharing.specs.Laws.{Shared, openValues}
 use Rattle.sharing.specs.Shares.{shares}
-use Rattle.sharing.specs.Sharing.{borne, isPart, weighed, shareOutcome, sharedOut, shareValues}
+use Rattle.sharing.specs.Sharing.{borneOutcome, isPart, weighedOutcome, shareOutcome, sharedOut, shareValues}
 use Rattle.sharing.specs.Weighing.{weighing, wholeUnless}
 use Rattle.sharing.specs.Weights.{weights, unweighted}
 use Rattle.sharing.proofs.Places.{openValues-placed}
@@ -31,17 +31,17 @@ whole-of None n whole e = (refl, cc)
 whole-of (Some i) n whole e = (cc, cc)
 
 -- the weight is there, or there is nothing to bear
-borne-by : (X Y : ℕ) → (0 < Y) ⊎ (X ≡ 0) → borne X Y ≡ Ok tt
+borne-by : (X Y : ℕ) → (0 < Y) ⊎ (X ≡ 0) → borneOutcome X Y ≡ Ok tt
 borne-by X Y (inl h) = rw (ne-eqb Y 0 (λ e. omega arith))
 borne-by X Y (inr e) = rw (eq-eqb X 0 e, and-right (eqb Y 0) false refl)
 
-bears : (X Y : ℕ) → borne X Y ≡ Ok tt → (0 < Y) ⊎ (X ≡ 0)
+bears : (X Y : ℕ) → borneOutcome X Y ≡ Ok tt → (0 < Y) ⊎ (X ≡ 0)
 bears X Y e =
     ⊎-elim inr
     (λ ne. ⊎-elim inl
       (λ le.
         let nothing : Y ≡ 0 = omega arith in
-        let out : borne X Y ≡ Err (faultAt TotalWeightZero 0) = rw (eq-eqb Y 0 nothing, ne-eqb X 0 ne) in
+        let out : borneOutcome X Y ≡ Err (faultAt TotalWeightZero 0) = rw (eq-eqb Y 0 nothing, ne-eqb X 0 ne) in
         absurd (clash e out))
       (cases-lt 0 Y))
     (cases-eq X 0)
@@ -49,7 +49,7 @@ bears X Y e =
     clash : {f : Fault} {r : Result (Unit {0}) Fault} → r ≡ Ok tt → r ≡ Err f → ⊥
     clash p q = let z : _≡_ {A = ℕ} 0 1 = cc in omega arith
 
-weighed-ok : (u : Option ℕ) (X Y : ℕ) → weighed u X Y ≡ Ok tt → (0 < Y) ⊎ (X ≡ 0)
+weighed-ok : (u : Option ℕ) (X Y : ℕ) → weighedOutcome u X Y ≡ Ok tt → (0 < Y) ⊎ (X ≡ 0)
 weighed-ok None X Y e = bears X Y e
 weighed-ok (Some i) X Y e = absurd (let z : _≡_ {A = ℕ} 0 1 = cc in omega arith)
 
@@ -58,12 +58,16 @@ part-ok true r f e = (refl, e)
 part-ok false r f e = (cc, cc)
 
 module _ (P : ℕ → Option (ℕ × ℕ)) (first : ℕ) (ss : List State) (X : ℕ) (vs : List ℕ) where
+  -- a part of the cycle is not turned down as such
+  pub part-outcome : length ss ≡ length vs → first + length ss ≤ 2976 → shareOutcome P first ss X vs ≡ weighedOutcome (unweighted P first ss) X (sum (weights P first ss))
+  part-outcome level within = cond-true (isPart first ss vs) (weighedOutcome (unweighted P first ss) X (sum (weights P first ss))) (Err (faultAt PlacesOrRegionUnfit 0)) (and-from (eqb (length ss) (length vs)) (leb (first + length ss) 2976) (eq-eqb (length ss) (length vs) level) (le-leb (first + length ss) 2976 within))
+
   pub accepted : (whole : ℕ) → length ss ≡ length vs → first + length ss ≤ 2976 → Ok whole ≡ weighing P first ss → (0 < whole) ⊎ (X ≡ 0) → shareOutcome P first ss X vs ≡ Ok tt
   accepted whole level within e h =
       let w = whole-of (unweighted P first ss) (sum (weights P first ss)) whole e in
-      cond-true (isPart first ss vs) (weighed (unweighted P first ss) X (sum (weights P first ss))) (Err (faultAt PlacesOrRegionUnfit 0)) (and-from (eqb (length ss) (length vs)) (leb (first + length ss) 2976) (eq-eqb (length ss) (length vs) level) (le-leb (first + length ss) 2976 within))
-      ∙ ap (λ u. weighed u X (sum (weights P first ss))) (w .0)
-      ∙ ap (borne X) (sym (w .1))
+      part-outcome level within
+      ∙ ap (λ u. weighedOutcome u X (sum (weights P first ss))) (w .0)
+      ∙ ap (borneOutcome X) (sym (w .1))
       ∙ borne-by X whole h
 
   pub values-accepted : shareOutcome P first ss X vs ≡ Ok tt → shareValues P first ss X vs ≡ sharedOut P first ss X vs
@@ -72,11 +76,11 @@ module _ (P : ℕ → Option (ℕ × ℕ)) (first : ℕ) (ss : List State) (X : 
   -- what an accepted sharing has written at the open places
   pub openValues-accepted : shareOutcome P first ss X vs ≡ Ok tt → openValues ss (shareValues P first ss X vs) ≡ shares X (sum (weights P first ss)) 0 (weights P first ss)
   openValues-accepted e =
-      let part = part-ok (isPart first ss vs) (weighed (unweighted P first ss) X (sum (weights P first ss))) (faultAt PlacesOrRegionUnfit 0) e .0 in
+      let part = part-ok (isPart first ss vs) (weighedOutcome (unweighted P first ss) X (sum (weights P first ss))) (faultAt PlacesOrRegionUnfit 0) e .0 in
       let level = eqb-true (length ss) (length vs) (and-parts (eqb (length ss) (length vs)) (leb (first + length ss) 2976) part .0) in
       ap (openValues ss) (values-accepted e) ∙ openValues-placed X (sum (weights P first ss)) 0 P first ss vs level
 
   pub shared-accepted : shareOutcome P first ss X vs ≡ Ok tt → Shared X (weights P first ss) (openValues ss (shareValues P first ss X vs))
   shared-accepted e =
-      let borne-out = part-ok (isPart first ss vs) (weighed (unweighted P first ss) X (sum (weights P first ss))) (faultAt PlacesOrRegionUnfit 0) e .1 in
+      let borne-out = part-ok (isPart first ss vs) (weighedOutcome (unweighted P first ss) X (sum (weights P first ss))) (faultAt PlacesOrRegionUnfit 0) e .1 in
       subst (Shared X (weights P first ss)) (sym (openValues-accepted e)) (shares-shared X (weights P first ss) (weighed-ok (unweighted P first ss) X (sum (weights P first ss)) borne-out))

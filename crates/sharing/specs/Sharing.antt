@@ -27,18 +27,18 @@ abbrev pub isPart : ℕ → List State → List ℕ → Bool
 isPart first ss vs = eqb (length ss) (length vs) && leb (first + length ss) longestCycle
 
 -- an amount that no weight bears is turned down
-abbrev pub borne : ℕ → ℕ → Result (Unit {0}) Fault
-borne amount whole = cond (eqb whole 0 && not (eqb amount 0)) (Err (faultAt TotalWeightZero 0)) (Ok tt)
+abbrev pub borneOutcome : ℕ → ℕ → Result (Unit {0}) Fault
+borneOutcome amount whole = cond (eqb whole 0 && not (eqb amount 0)) (Err (faultAt TotalWeightZero 0)) (Ok tt)
 
 -- and so is an open place without a weight
-abbrev pub weighed : Option ℕ → ℕ → ℕ → Result (Unit {0}) Fault
-weighed (Some i) amount whole = Err (faultAt PlaceWithoutWeight i)
-weighed None amount whole = borne amount whole
+abbrev pub weighedOutcome : Option ℕ → ℕ → ℕ → Result (Unit {0}) Fault
+weighedOutcome (Some i) amount whole = Err (faultAt PlaceWithoutWeight i)
+weighedOutcome None amount whole = borneOutcome amount whole
 
 abbrev pub shareOutcome : (ℕ → Option (ℕ × ℕ)) → ℕ → List State → ℕ → List ℕ → Result (Unit {0}) Fault
 shareOutcome P first ss amount vs =
     cond (isPart first ss vs)
-    (weighed (unweighted P first ss) amount (sum (weights P first ss)))
+    (weighedOutcome (unweighted P first ss) amount (sum (weights P first ss)))
     (Err (faultAt PlacesOrRegionUnfit 0))
 
 -- the part's values once the amount is shared over its open places
