@@ -39,11 +39,11 @@ bears : (X Y : ℕ) → borneOutcome X Y ≡ Ok tt → (0 < Y) ⊎ (X ≡ 0)
 bears X Y e =
     ⊎-elim inr
     (λ ne. ⊎-elim inl
-      (λ le.
-        let nothing : Y ≡ 0 = omega arith in
-        let out : borneOutcome X Y ≡ Err (faultAt TotalWeightZero 0) = rw (eq-eqb Y 0 nothing, ne-eqb X 0 ne) in
-        absurd (clash e out))
-      (cases-lt 0 Y))
+    (λ le.
+    let nothing : Y ≡ 0 = omega arith in
+    let out : borneOutcome X Y ≡ Err (faultAt TotalWeightZero 0) = rw (eq-eqb Y 0 nothing, ne-eqb X 0 ne) in
+    absurd (clash e out))
+    (cases-lt 0 Y))
     (cases-eq X 0)
   where
     clash : {f : Fault} {r : Result (Unit {0}) Fault} → r ≡ Ok tt → r ≡ Err f → ⊥
@@ -73,14 +73,13 @@ module _ (P : ℕ → Option (ℕ × ℕ)) (first : ℕ) (ss : List State) (X : 
   pub values-accepted : shareOutcome P first ss X vs ≡ Ok tt → shareValues P first ss X vs ≡ sharedOut P first ss X vs
   values-accepted e = ap (λ r. cond (isOk r) (sharedOut P first ss X vs) vs) e
 
-  -- what an accepted sharing has written at the open places
-  pub openValues-accepted : shareOutcome P first ss X vs ≡ Ok tt → openValues ss (shareValues P first ss X vs) ≡ shares X (sum (weights P first ss)) 0 (weights P first ss)
-  openValues-accepted e =
-      let part = part-ok (isPart first ss vs) (weighedOutcome (unweighted P first ss) X (sum (weights P first ss))) (faultAt PlacesOrRegionUnfit 0) e .0 in
-      let level = eqb-true (length ss) (length vs) (and-parts (eqb (length ss) (length vs)) (leb (first + length ss) 2976) part .0) in
-      ap (openValues ss) (values-accepted e) ∙ openValues-placed X (sum (weights P first ss)) 0 P first ss vs level
-
-  pub shared-accepted : shareOutcome P first ss X vs ≡ Ok tt → Shared X (weights P first ss) (openValues ss (shareValues P first ss X vs))
+  pub shared-accepted : shareOutcome P first ss X vs ≡ Ok tt → Shared X (weights P first ss) (openValues ss (sharedOut P first ss X vs))
   shared-accepted e =
-      let borne-out = part-ok (isPart first ss vs) (weighedOutcome (unweighted P first ss) X (sum (weights P first ss))) (faultAt PlacesOrRegionUnfit 0) e .1 in
-      subst (Shared X (weights P first ss)) (sym (openValues-accepted e)) (shares-shared X (weights P first ss) (weighed-ok (unweighted P first ss) X (sum (weights P first ss)) borne-out))
+      let parts = part-ok (isPart first ss vs) (weighedOutcome (unweighted P first ss) X (sum (weights P first ss))) (faultAt PlacesOrRegionUnfit 0) e in
+      let level = eqb-true (length ss) (length vs) (and-parts (eqb (length ss) (length vs)) (leb (first + length ss) 2976) (parts .0) .0) in
+      subst (Shared X (weights P first ss)) (sym (openValues-placed X (sum (weights P first ss)) 0 P first ss vs level))
+      (shares-shared X (weights P first ss) (weighed-ok (unweighted P first ss) X (sum (weights P first ss)) (parts .1)))
+
+  -- the values that an accepted sharing has written
+  pub written-accepted : (us : List ℕ) → shareOutcome P first ss X vs ≡ Ok tt → us ≡ sharedOut P first ss X vs → (us ≡ shareValues P first ss X vs) × Shared X (weights P first ss) (openValues ss us)
+  written-accepted us e w = (w ∙ sym (values-accepted e), subst (λ us. Shared X (weights P first ss) (openValues ss us)) (sym w) (shared-accepted e))

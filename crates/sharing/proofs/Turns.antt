@@ -13,6 +13,7 @@ use Rattle.std.specs.declared.result.Result.the-variants.{Ok, Err}
 use Rattle.std.specs.shelf.Lists.{sum}
 use Rattle.std.proofs.shelf.Lists.{append-assoc, at-drop-more, at-drop-all, drop-all, drop-more, drop-set-lt, take-append-drop, take-more, take-more-set}
 use Rattle.std.proofs.shelf.Sums.{sumBy-cons}
+use Rattle.fault.specs.declared.record.Fault.{Fault}
 use Rattle.fault.specs.declared.refusal.Refusal.the-variants.{PlaceWithoutWeight}
 use Rattle.fault.specs.Faults.{faultAt}
 use Rattle.sharing.specs.declared.state.State.{State}
@@ -90,11 +91,11 @@ module _ (P : ℕ → Option (ℕ × ℕ)) (first : ℕ) (ss : List State) (i : 
       ∙ ap (λ n. (n - running X Y S) ∷ shares X Y (S + w) rest) (sym d)
       ∙ ap (λ n. (due - n) ∷ shares X Y (S + w) rest) (sym f)
 
-pub weighing-stops : (P : ℕ → Option (ℕ × ℕ)) (first : ℕ) (ss : List State) (k : ℕ) → unweighted P first ss ≡ Some k → weighing P first ss ≡ Err (faultAt PlaceWithoutWeight k)
-weighing-stops P first ss k e = rw e
+pub weighing-stops : (P : ℕ → Option (ℕ × ℕ)) (first : ℕ) (ss : List State) (k : ℕ) (f : Fault) → f ≡ faultAt PlaceWithoutWeight k → unweighted P first ss ≡ Some k → Err f ≡ weighing P first ss
+weighing-stops P first ss k f a e = rw e (ap Err a)
 
-pub weighing-ends : (P : ℕ → Option (ℕ × ℕ)) (first : ℕ) (ss : List State) (whole : ℕ) → unweighted P first ss ≡ None → whole ≡ sum (weights P first ss) → weighing P first ss ≡ Ok whole
-weighing-ends P first ss whole e f = rw e (ap Ok (sym f))
+pub weighing-ends : (P : ℕ → Option (ℕ × ℕ)) (first : ℕ) (ss : List State) (whole : ℕ) → whole ≡ sum (weights P first ss) → unweighted P first ss ≡ None → Ok whole ≡ weighing P first ss
+weighing-ends P first ss whole a e = rw e (ap Ok a)
 
 -- the value at a place, written or left
 module _ (ss : List State) (es vs : List ℕ) (i e : ℕ) (h : i < length ss) (k : i < length vs) where

@@ -31,17 +31,41 @@ impl Profile for Doubling as DoublingProfile {
     }
 }
 
-const OPEN: State = State { status: Status::Open, marks: 0, code: 0 };
-const MEASURED: State = State { status: Status::Measured, marks: 0, code: 0 };
+const OPEN: State = State {
+    status: Status::Open,
+    marks: 0,
+    code: 0,
+};
+
+const MEASURED: State = State {
+    status: Status::Measured,
+    marks: 0,
+    code: 0,
+};
+
+// The outcome, with the values after it.
+fn outcome<P: Profile, const N: usize, const M: usize>(
+    profile: &P,
+    first: usize,
+    states: [State; N],
+    amount: u32,
+    mut values: [u32; M],
+) -> (Result<(), Fault>, [u32; M]) {
+    let result = share(profile, first, &states, amount, &mut values);
+    (result, values)
+}
 
 #[test]
 fn every_pulse_is_shared() -> Result<(), Fail> {
-    let mut values = [0; 3];
-    share(&Doubling, 5, &[OPEN; 3], 10, &mut values)?;
-    check_eq(values, [1, 3, 6])?;
-
-    let mut values = [0; 21];
-    share(&Flat, 0, &[OPEN; 21], 200, &mut values)?;
+    check_eq(
+        outcome(&Doubling, 5, [OPEN; 3], 10, [0; 3]),
+        (Ok(()), [1, 3, 6]),
+    )?;
+    check_eq(
+        outcome(&Doubling, 4, [MEASURED, OPEN, MEASURED, OPEN], 10, [7; 4]),
+        (Ok(()), [7, 2, 7, 8]),
+    )?;
+    let (_, values) = outcome(&Flat, 0, [OPEN; 21], 200, [0; 21]);
     let mut total = 0u32;
     for value in values {
         total = total.wrapping_add(value);
@@ -51,23 +75,30 @@ fn every_pulse_is_shared() -> Result<(), Fail> {
 }
 
 #[test]
-fn other_places_keep_their_values() -> Result<(), Fail> {
-    let mut values = [7; 5];
-    share(&Doubling, 4, &[MEASURED, OPEN, MEASURED, OPEN, MEASURED], 10, &mut values)?;
-    check_eq(values, [7, 2, 7, 8, 7])
-}
-
-#[test]
 fn refusals_come_in_order_and_leave_the_part() -> Result<(), Fail> {
-    let mut values = [7; 4];
-    // as many values as places, though place 4 has no weight
-    check_eq(share(&Doubling, 4, &[OPEN; 3], 10, &mut values), Err(Fault::at(Refusal::PlacesOrRegionUnfit, 0)))?;
-    check_eq(share(&Doubling, 2973, &[OPEN; 4], 10, &mut values), Err(Fault::at(Refusal::PlacesOrRegionUnfit, 0)))?;
-    // the first open place without a weight, counted in the cycle, though the whole weight is 0
-    check_eq(share(&Doubling, 8, &[OPEN; 4], 10, &mut values), Err(Fault::at(Refusal::PlaceWithoutWeight, 9)))?;
-    check_eq(share(&Doubling, 8, &[OPEN, MEASURED, MEASURED, MEASURED], 10, &mut values), Err(Fault::at(Refusal::TotalWeightZero, 0)))?;
-    check_eq(values, [7; 4])?;
-    // nothing to share
-    share(&Doubling, 8, &[OPEN, MEASURED, MEASURED, MEASURED], 0, &mut values)?;
-    check_eq(values, [0, 7, 7, 7])
+    // a value is missing, though place 4 has no weight
+    let unfit = Err(Fault::at(Refusal::PlacesOrRegionUnfit, 0));
+    check_eq(
+        outcome(&Doubling, 4, [OPEN; 3], 10, [7; 2]),
+        (unfit, [7; 2]),
+    )?;
+    check_eq(
+        outcome(&Doubling, 2974, [OPEN; 3], 10, [7; 3]),
+        (unfit, [7; 3]),
+    )?;
+    // the place is counted in the cycle, though the whole weight is 0
+    let without_weight = Err(Fault::at(Refusal::PlaceWithoutWeight, 9));
+    check_eq(
+        outcome(&Doubling, 8, [OPEN; 3], 10, [7; 3]),
+        (without_weight, [7; 3]),
+    )?;
+    let zero = Err(Fault::at(Refusal::TotalWeightZero, 0));
+    check_eq(
+        outcome(&Doubling, 8, [OPEN, MEASURED], 10, [7; 2]),
+        (zero, [7; 2]),
+    )?;
+    check_eq(
+        outcome(&Doubling, 8, [OPEN, MEASURED], 0, [7; 2]),
+        (Ok(()), [0, 7]),
+    )
 }

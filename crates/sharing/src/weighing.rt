@@ -7,6 +7,7 @@ ghost use Rattle.std.specs.Vec.{made};
 ghost use Rattle.std.specs.Options.{Cases};
 ghost use Rattle.std.specs.declared.result.Result.the-variants.{Ok, Err};
 ghost use Rattle.std.specs.shelf.Lists.{sum};
+ghost use Rattle.sharing.specs.Sharing.{longestCycle};
 ghost use Rattle.sharing.specs.Weighing.{placeWeight, weighing};
 ghost use Rattle.sharing.specs.Weights.{isOpen};
 use crate::state::State;
@@ -29,10 +30,14 @@ pub(crate) fn weight_at<P: Profile>(profile: &P, place: usize, state: State) -> 
 }
 
 // The whole weight of the part that begins at place `first`.
-pub(crate) fn whole_weight<P: Profile>(profile: &P, first: usize, states: &[State]) -> Result<u64, Fault>
-    requires { ⌜ first + length (now states) ≤ 2976 ⌝ }
+pub(crate) fn whole_weight<P: Profile>(
+    profile: &P,
+    first: usize,
+    states: &[State],
+) -> Result<u64, Fault>
+    requires { ⌜ first + length (now states) ≤ longestCycle ⌝ }
     ensures weight { λ r. ⌜ r ≡ weighing (P·Profile .meaning (now (profile .entry))) first (now (states .entry)) ⌝ }
-    ensures bound { λ r. ⌜ made r (λ w. w ≤ 2976 * 65535) ⌝ }
+    ensures bound { λ r. ⌜ made r (λ w. w ≤ longestCycle * 65535) ⌝ }
 {
     let mut whole = 0;
     for (i, state) in states.iter().enumerate() {

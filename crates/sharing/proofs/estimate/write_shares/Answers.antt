@@ -34,14 +34,16 @@ loop-i-again g c =
     let es = shares (c .args .amount) (c .args .whole) (c .loop-i .weight + w) (weights P (c .args .first + (i + 1)) (drop (i + 1) ss)) in
     let turn = ap (λ es. take i vs ++ placed (drop i ss) es (drop i vs)) (shares-more P (c .args .first) ss i (c .args .amount) (c .args .whole) (c .loop-i .weight) w due shared (c .loop-i-test .taken) is (c .running-share-due .ensures) (c .loop-i .inv .1)) in
     elim (c .if-is-open .came) [
-      then-is-open t ↦ (
+      | then-is-open t ↦ (
         omega arith,
         t .shared-is ∙ c .running-share-due .ensures,
-        ap (λ us. take (i + 1) us ++ placed (drop (i + 1) ss) es (drop (i + 1) us)) (t .values-is) ∙ sym (placed-writes ss es vs i (due - shared) (c .loop-i-test .taken) (omega arith) (sym (c .is-open .ensures) ∙ t .if-is-open .taken)) ∙ sym turn ∙ c .loop-i .inv .2)
-    | else-is-open t ↦ (
+        ap (λ us. take (i + 1) us ++ placed (drop (i + 1) ss) es (drop (i + 1) us)) (t .values-is) ∙ sym (placed-writes ss es vs i (due - shared) (c .loop-i-test .taken) (omega arith) (sym (c .is-open .ensures) ∙ t .if-is-open .taken)) ∙ sym turn ∙ c .loop-i .inv .2,
+      )
+      | else-is-open t ↦ (
         omega arith,
         t .shared-is ∙ c .running-share-due .ensures,
-        ap (λ us. take (i + 1) us ++ placed (drop (i + 1) ss) es (drop (i + 1) us)) (t .values-is) ∙ sym (placed-leaves ss es vs i (due - shared) (c .loop-i-test .taken) (omega arith) (sym (c .is-open .ensures) ∙ t .if-is-open .left)) ∙ sym turn ∙ c .loop-i .inv .2)
+        ap (λ us. take (i + 1) us ++ placed (drop (i + 1) ss) es (drop (i + 1) us)) (t .values-is) ∙ sym (placed-leaves ss es vs i (due - shared) (c .loop-i-test .taken) (omega arith) (sym (c .is-open .ensures) ∙ t .if-is-open .left)) ∙ sym turn ∙ c .loop-i .inv .2,
+      )
     ]
 
 pub returns : need.returns

@@ -1,6 +1,6 @@
-use mathlib.Core.Path.{_≡_, sym, ap, _∙_}
+use mathlib.Core.Path.{sym, _∙_}
+use Prim.Native.Nat.{_+_}
 use native.Mathlib.Omega.{arith}
-use Rattle.std.specs.declared.result.Result.the-variants.{Err}
 use Rattle.sharing.proofs.Turns.{sum-more, sum-all, unweighted-skip, unweighted-stop, unweighted-all, weight-is, weighing-stops, weighing-ends}
 use Rattle.sharing.proofs.weighing.whole_weight.Needs as need
 
@@ -9,7 +9,7 @@ returns-in-None g c =
     let P = g .P·Profile .meaning (c .args .profile .now) in
     let stop = unweighted-stop P (c .args .first) (c .args .states .now) (c .loop-i .i) (c .loop-i-test .taken) (c .in-None .ensures tt .weight) in
     record {
-      weight = ap Err (c .at .ensures) ∙ sym (weighing-stops P (c .args .first) (c .args .states .now) _ (sym (c .loop-i .inv .1) ∙ stop));
+      weight = weighing-stops P (c .args .first) (c .args .states .now) (c .args .first + c .loop-i .i) (c .at .result) (c .at .ensures) (sym (c .loop-i .inv .1) ∙ stop);
       bound = tt;
     }
 
@@ -27,6 +27,6 @@ returns g c =
     let none = unweighted-all P (c .args .first) (c .args .states .now) (c .loop-i .i) (c .loop-i-test .left) in
     let rest = sum-all P (c .args .first) (c .args .states .now) (c .loop-i .i) (c .loop-i-test .left) in
     record {
-      weight = sym (weighing-ends P (c .args .first) (c .args .states .now) (c .loop-i .whole) (sym (c .loop-i .inv .1) ∙ none) (omega arith));
+      weight = weighing-ends P (c .args .first) (c .args .states .now) (c .loop-i .whole) (omega arith) (sym (c .loop-i .inv .1) ∙ none);
       bound = omega arith;
     }
