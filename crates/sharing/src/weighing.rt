@@ -1,12 +1,9 @@
 // The weights of the open places of a part of the cycle.
-ghost use mathlib.Core.Bool.{cond};
 ghost use mathlib.Core.Path.{_≡_};
 ghost use Prim.Native.Nat.{_+_, _*_, _≤_};
 ghost use lib.ListN.{length};
 ghost use Rattle.std.specs.Vec.{made};
 ghost use Rattle.std.specs.Options.{Cases};
-ghost use Rattle.std.specs.declared.result.Result.the-variants.{Ok, Err};
-ghost use Rattle.std.specs.shelf.Lists.{sum};
 ghost use Rattle.sharing.specs.Sharing.{longestCycle};
 ghost use Rattle.sharing.specs.Weighing.{placeWeight, weighing};
 ghost use Rattle.sharing.specs.Weights.{isOpen};
