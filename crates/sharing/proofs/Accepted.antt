@@ -19,7 +19,6 @@ use Rattle.fault.specs.declared.refusal.Refusal.the-variants.{PlacesOrRegionUnf
 use Rattle.fault.specs.Faults.{faultAt}
 use Rattle.sharing.specs.declared.state.State.{State}
 use Rattle.sharing.specs.Laws.{Shared, openValues}
-use Rattle.sharing.specs.Shares.{shares}
 use Rattle.sharing.specs.Sharing.{borneOutcome, isPart, weighedOutcome, shareOutcome, sharedOut, shareValues}
 use Rattle.sharing.specs.Weighing.{weighing, wholeUnless}
 use Rattle.sharing.specs.Weights.{weights, unweighted}

@@ -13,7 +13,7 @@ use Rattle.fault.specs.Faults.{faultAt}
 use Rattle.sharing.specs.declared.state.State.{State}
 use Rattle.sharing.specs.Weights.{weights, unweighted}
 
--- what one place weighs, if it is open or not and the profile answers so
+-- what a place weighs, open or not, by the answer of the profile
 abbrev pub placeWeight : Bool → Option (ℕ × ℕ) → Option ℕ
 placeWeight false a = Some 0
 placeWeight true None = None

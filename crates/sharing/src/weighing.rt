@@ -12,7 +12,7 @@ use fault::Fault;
 use fault::Refusal;
 use profile::Profile;
 
-// What a place weighs, nothing where it is open and the profile has no weight for it.
+// What a place weighs: 0 unless it is open, and `None` where it is open and the profile has no weight for it.
 pub(crate) fn weight_at<P: Profile>(profile: &P, place: usize, state: State) -> Option<u64>
     ensures weight { λ r. ⌜ r ≡ placeWeight (isOpen state) (P·Profile .meaning (now (profile .entry)) place) ⌝ }
     ensures bound { λ r. ⌜ Cases r (Unit {0}) (λ w. w ≤ 65535) ⌝ }

@@ -1,6 +1,6 @@
 use mathlib.Core.List.{_++_}
 use mathlib.Core.Path.{_≡_}
-use Prim.Native.Nat.{_+_, _*_, _≤_}
+use Prim.Native.Nat.{_+_}
 use lib.ListN.{take, drop}
 use Rattle.std.specs.shelf.Lists.{sum}
 use Rattle.sharing.specs.Shares.{running, shares, placed}
