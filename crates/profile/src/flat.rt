@@ -1,14 +1,15 @@
 // The same weight everywhere.
-ghost use Rattle.std.specs.declared.option.Option.the-variants.{Some};
+ghost use Rattle.profile.specs.Meanings.{flatWeight};
+use crate::method::Method;
 use crate::weighing::Profile;
 
 #[derive(Clone, Copy, Debug)]
 pub struct Flat;
 
 pub impl Profile for Flat as FlatProfile {
-    ghost meaning = { λ _ _. Some (1, 1) };
+    ghost meaning = { λ _. flatWeight };
 
     fn weight(&self, _place: usize) -> Option<(u16, u8)> {
-        Some((1, 1))
+        Some((1, Method::Flat.code()))
     }
 }

@@ -1,0 +1,6 @@
+pub mod Codes
+pub mod Lengths
+pub mod Meanings
+pub mod PastDays
+pub mod Averages
+pub mod PastDaysOf
