@@ -1,1 +1,2 @@
 mod Sheets
+mod Averaged

@@ -3,4 +3,5 @@ pub mod Lengths
 pub mod Meanings
 pub mod PastDays
 pub mod Averages
+pub mod Laws
 pub mod PastDaysOf

@@ -2,9 +2,11 @@
 ghost use mathlib.Core.Path.{_≡_};
 ghost use Prim.Native.Nat.{_≤_};
 ghost use lib.ListN.{length, getD};
+ghost use Rattle.std.specs.Vec.{made};
 ghost use Rattle.std.specs.shelf.Lists.{sum};
 ghost use Rattle.profile.specs.PastDays.{sheet, taken, countsKept};
 ghost use Rattle.profile.specs.Averages.{weekdayAt, timeOfDay, countOn, similar, referenceCounts, referenceWeight};
+ghost use Rattle.profile.specs.Laws.{WeekdaysRunBack, WholeWeeksBack, BetweenCounts, WeighsByAverage};
 ghost use Rattle.profile.specs.PastDaysOf.{pastDaysOf, madeOf};
 use crate::interval_length::IntervalLength;
 use crate::method::Method;
@@ -39,7 +41,9 @@ impl<'a> ReferenceDays<'a> {
         counts: &'a [u32],
         marks: &'a [u8],
     ) -> Result<ReferenceDays<'a>, Fault>
-        ensures { λ r. ⌜ madeOf r ≡ taken (sheet «first_weekday» «places_a_day» days (now (counts .entry)) (now (marks .entry))) ⌝ }
+        ensures made { λ r. ⌜ madeOf r ≡ taken (sheet «first_weekday» «places_a_day» days (now (counts .entry)) (now (marks .entry))) ⌝ }
+        ensures weighs { λ r. ⌜ made r (λ d. WeighsByAverage (pastDaysOf d)) ⌝ }
+        ensures weekdays { λ _. ⌜ WeekdaysRunBack ⌝ }
     {
         let unfit = Fault::at(Refusal::ReferenceDaysUnfit, 0);
         let Some(length) = IntervalLength::from_places_a_day(places_a_day) else {
@@ -110,7 +114,11 @@ impl ReferenceDays<'_> {
 pub impl Profile for ReferenceDays<'_> as ReferenceDaysProfile {
     ghost meaning = { λ s. referenceWeight (pastDaysOf s) };
 
-    fn weight(&self, place: usize) -> Option<(u16, u8)> {
+    fn weight(&self, place: usize) -> Option<(u16, u8)>
+        ensures answer { λ r. ⌜ r ≡ referenceWeight (pastDaysOf (now (self .entry))) place ⌝ }
+        ensures weeks { λ _. ⌜ WholeWeeksBack (pastDaysOf (now (self .entry))) place ⌝ }
+        ensures between { λ r. ⌜ BetweenCounts (pastDaysOf (now (self .entry))) place r ⌝ }
+    {
         let (total, found) = self.newest(place);
         if found == 0 {
             return None;
