@@ -3,7 +3,7 @@ ghost use mathlib.Core.Path.{_≡_};
 ghost use Rattle.profile.specs.Lengths.{placesADay, knownPlaces};
 ghost use Rattle.std.specs.Options.{mapped};
 
-#[derive(Clone, Copy, Debug)]
+#[derive(Clone, Copy)]
 pub enum IntervalLength {
     Hour,
     HalfHour,

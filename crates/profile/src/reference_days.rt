@@ -124,7 +124,7 @@ pub impl Profile for ReferenceDays<'_> as ReferenceDaysProfile {
             return None;
         }
         let average = total / found;
-        if average <= 65_535 {
+        if average <= MOST_PULSES as u64 {
             Some((average as u16, Method::ReferenceDays.code()))
         } else {
             None
