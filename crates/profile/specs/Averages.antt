@@ -23,8 +23,9 @@ weekdayAt d place = (d .firstWeekday + place / d .placesADay) % 7
 abbrev pub timeOfDay : PastDays → ℕ → ℕ
 timeOfDay d place = place % d .placesADay
 
+-- a day without a mark would not be
 abbrev pub usable : PastDays → ℕ → Bool
-usable d j = eqb (getD (d .marks) j 0) 0
+usable d j = eqb (getD (d .marks) j 1) 0
 
 -- whether a place of the weekday may be weighed by day j
 abbrev pub similar : PastDays → ℕ → ℕ → Bool

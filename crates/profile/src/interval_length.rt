@@ -4,14 +4,14 @@ ghost use Rattle.profile.specs.Lengths.{placesADay, knownPlaces};
 ghost use Rattle.std.specs.Options.{mapped};
 
 #[derive(Clone, Copy)]
-pub enum IntervalLength {
+pub(crate) enum IntervalLength {
     Hour,
     HalfHour,
     QuarterHour,
 }
 
 impl IntervalLength {
-    pub fn places_a_day(self) -> usize
+    pub(crate) fn places_a_day(self) -> usize
         ensures { λ r. ⌜ r ≡ placesADay self ⌝ }
     {
         match self {
@@ -22,7 +22,7 @@ impl IntervalLength {
     }
 
     // The length by which a day has so many places, if there is one.
-    pub fn from_places_a_day(places: u32) -> Option<IntervalLength>
+    pub(crate) fn from_places_a_day(places: u32) -> Option<IntervalLength>
         ensures { λ r. ⌜ mapped placesADay r ≡ knownPlaces places ⌝ }
     {
         match places {

@@ -14,13 +14,16 @@ use crate::weighing::Profile;
 use fault::Fault;
 use fault::Refusal;
 
-// the most days of a sheet, and the most of them that are averaged
-const MOST_DAYS: u32 = 90;
-const MOST_AVERAGED: u64 = 3;
-
-const MOST_PULSES: u32 = 65_535;
 const WEEK: usize = 7;
 
+const MOST_PULSES: u32 = 65_535;
+// the most days of a sheet, and the most of them that are averaged
+const MOST_DAYS: u32 = 90;
+
+const MOST_AVERAGED: u64 = 3;
+
+// A sheet of past days that fits, since only `new` makes one. That fact is promised there and is no ghost field here,
+// for no `Result` can hold a borrowing struct with one; so `weight` says what it answers whatever the parts are.
 #[derive(Clone, Copy)]
 pub struct ReferenceDays<'a> {
     // of the cycle's first day: 0 for Monday to 6 for Sunday
@@ -49,7 +52,7 @@ impl<'a> ReferenceDays<'a> {
         let Some(length) = IntervalLength::from_places_a_day(places_a_day) else {
             return Err(unfit);
         };
-        if first_weekday < 7
+        if (first_weekday as usize) < WEEK
             && days <= MOST_DAYS
             && counts.len() == days as usize * length.places_a_day()
             && marks.len() == days as usize
@@ -79,8 +82,9 @@ impl ReferenceDays<'_> {
     fn is_similar(&self, weekday: usize, day: u8) -> bool
         ensures { λ r. ⌜ r ≡ similar (pastDaysOf (now (self .entry))) weekday day ⌝ }
     {
+        // a day back in the week is six days on
         let weekday_back = (self.first_weekday as usize + 6 * (day as usize + 1)) % WEEK;
-        at_or(self.marks, day as usize, 0) == 0 && weekday_back == weekday
+        at_or(self.marks, day as usize, 1) == 0 && weekday_back == weekday
     }
 
     // What was counted on the day at the time of day of the place.
@@ -123,6 +127,7 @@ pub impl Profile for ReferenceDays<'_> as ReferenceDaysProfile {
         if found == 0 {
             return None;
         }
+        // never above where the sheet fits
         let average = total / found;
         if average <= MOST_PULSES as u64 {
             Some((average as u16, Method::ReferenceDays.code()))
@@ -147,5 +152,9 @@ fn counts_kept(counts: &[u32]) -> bool
 fn at_or<T: Copy>(items: &[T], index: usize, otherwise: T) -> T
     ensures { λ r. ⌜ r ≡ getD (now (items .entry)) index otherwise ⌝ }
 {
-    if index < items.len() { items[index] } else { otherwise }
+    if index < items.len() {
+        items[index]
+    } else {
+        otherwise
+    }
 }

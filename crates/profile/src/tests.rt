@@ -23,12 +23,23 @@ fn four_weeks() -> [u32; 672] {
     counts
 }
 
-fn weigh<'a>(first_weekday: u32, counts: &'a [u32], marks: &'a [u8], place: usize) -> Result<Option<(u16, u8)>, Fault> {
+fn weigh<'a>(
+    first_weekday: u32,
+    counts: &'a [u32],
+    marks: &'a [u8],
+    place: usize,
+) -> Result<Option<(u16, u8)>, Fault> {
     let days = ReferenceDays::new(first_weekday, 24, 28, counts, marks)?;
     Ok(days.weight(place))
 }
 
-fn is_unfit<'a>(first_weekday: u32, places: u32, days: u32, counts: &'a [u32], marks: &'a [u8]) -> bool {
+fn is_unfit<'a>(
+    first_weekday: u32,
+    places: u32,
+    days: u32,
+    counts: &'a [u32],
+    marks: &'a [u8],
+) -> bool {
     match ReferenceDays::new(first_weekday, places, days, counts, marks) {
         Ok(_) => false,
         Err(fault) => fault == Fault::at(Refusal::ReferenceDaysUnfit, 0),
@@ -78,5 +89,11 @@ fn weekdays() -> Result<(), Fail> {
 fn pair_falls_through() -> Result<(), Fail> {
     let days = ReferenceDays::new(0, 24, 0, &[], &[])?;
     check_eq(days.weight(0), None)?;
-    check_eq(Pair { first: days, second: Flat }.weight(0), Some((1, 1)))
+    check_eq(
+        Pair {
+            first: days,
+            second: Flat,
+        }.weight(0),
+        Some((1, 1)),
+    )
 }

@@ -16,9 +16,10 @@ add-total c = omega (arith, c .loop-day .inv .small, c .loop-day .inv .few)
 pub loop-day-again : need.loop-day-again
 loop-day-again c =
     let same = c .is-similar .ensures ∙ ap (λ w. similar (pastDaysOf (c .args .self .now)) w (c .loop-day .day)) (c .weekday-at-weekday .ensures)
-    in elim (c .if-is-similar .came)
-        [ then-is-similar w ↦ rw (w .total-is, w .found-is) (sofar-yes _ _ _ _ _ _ _ (c .loop-day .inv) (c .loop-day-test .taken) (sym same ∙ w .if-is-similar .taken) (c .if-found-eq-MOST-AVERAGED .left) (w .count-on .ensures) (w .count-on .ok))
-        | else-is-similar w ↦ rw (w .total-is, w .found-is) (sofar-no _ _ _ _ _ _ (c .loop-day .inv) (c .loop-day-test .taken) (sym same ∙ w .if-is-similar .left)) ]
+    in elim (c .if-is-similar .came) [
+      | then-is-similar w ↦ rw (w .total-is, w .found-is) (sofar-yes _ _ _ _ _ _ _ (c .loop-day .inv) (c .loop-day-test .taken) (sym same ∙ w .if-is-similar .taken) (c .if-found-eq-MOST-AVERAGED .left) (w .count-on .ensures) (w .count-on .ok))
+      | else-is-similar w ↦ rw (w .total-is, w .found-is) (sofar-no _ _ _ _ _ _ (c .loop-day .inv) (c .loop-day-test .taken) (sym same ∙ w .if-is-similar .left))
+    ]
 
 pub returns-after-loop-day : need.returns-after-loop-day
 returns-after-loop-day c = sofar-all _ _ _ _ _ _ (c .loop-day .inv) (inl (c .loop-day-test .left))
