@@ -8,7 +8,6 @@ use crate::reference_days::ReferenceDaysProfile;
 use crate::weighing::Profile;
 use fault::Fault;
 use fault::Refusal;
-use fault::record::FaultDebug as _;
 use fault::record::FaultPartialEq as _;
 use std::test::*;
 
@@ -23,14 +22,13 @@ fn four_weeks() -> [u32; 672] {
     counts
 }
 
-fn weigh<'a>(
-    first_weekday: u32,
-    counts: &'a [u32],
-    marks: &'a [u8],
-    place: usize,
-) -> Result<Option<(u16, u8)>, Fault> {
-    let days = ReferenceDays::new(first_weekday, 24, 28, counts, marks)?;
-    Ok(days.weight(place))
+// Whether those days, marked so, weigh a place by the answer.
+fn weighs(first_weekday: u32, marks: [u8; 28], place: usize, answer: Option<(u16, u8)>) -> bool {
+    let counts = four_weeks();
+    match ReferenceDays::new(first_weekday, 24, 28, &counts, &marks) {
+        Ok(days) => days.weight(place) == answer,
+        Err(_) => false,
+    }
 }
 
 fn is_unfit<'a>(
@@ -62,38 +60,36 @@ fn refusals() -> Result<(), Fail> {
 
 #[test]
 fn newest_three_days() -> Result<(), Fail> {
-    let counts = four_weeks();
     let mut marks = [0; 28];
-    check_eq(weigh(0, &counts, &marks, 5)?, Some((20, 3)))?;
+    check(weighs(0, marks, 5, Some((20, 3))))?;
     marks[27] = 1;
     marks[6] = 255;
-    check_eq(weigh(0, &counts, &marks, 5)?, Some((26, 3)))?;
+    check(weighs(0, marks, 5, Some((26, 3))))?;
     marks[13] = 1;
-    check_eq(weigh(0, &counts, &marks, 5)?, Some((32, 3)))?;
+    check(weighs(0, marks, 5, Some((32, 3))))?;
     marks[20] = 1;
-    check_eq(weigh(0, &counts, &marks, 5)?, None)
+    check(weighs(0, marks, 5, None))
 }
 
 #[test]
 fn weekdays() -> Result<(), Fail> {
-    let counts = four_weeks();
     let mut marks = [1; 28];
     marks[5] = 0;
     marks[6] = 0;
-    check_eq(weigh(0, &counts, &marks, 29)?, Some((7, 3)))?;
-    check_eq(weigh(6, &counts, &marks, 29)?, Some((7, 3)))?;
-    check_eq(weigh(6, &counts, &marks, 173)?, Some((10, 3)))
+    check(weighs(0, marks, 29, Some((7, 3))))?;
+    check(weighs(6, marks, 29, Some((7, 3))))?;
+    check(weighs(6, marks, 173, Some((10, 3))))
 }
 
 #[test]
 fn pair_falls_through() -> Result<(), Fail> {
-    let days = ReferenceDays::new(0, 24, 0, &[], &[])?;
-    check_eq(days.weight(0), None)?;
-    check_eq(
-        Pair {
-            first: days,
-            second: Flat,
-        }.weight(0),
-        Some((1, 1)),
-    )
+    let Ok(days) = ReferenceDays::new(0, 24, 0, &[], &[]) else {
+        return Err(Fail::new("no days"));
+    };
+    let pair = Pair {
+        first: days,
+        second: Flat,
+    };
+    check(days.weight(0) == None)?;
+    check(pair.weight(0) == Some((1, 1)))
 }
