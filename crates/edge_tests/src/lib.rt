@@ -19,8 +19,17 @@ mod tests {
         (fault.refusal.number(), fault.position, fault.layer.number())
     }
 
-    fn identified(device: u32, standard: u32, meter: u32, answered: u32) -> Result<i64, (u8, usize, u8)> {
-        let clocks = Clocks { device, standard, meter };
+    fn identified(
+        device: u32,
+        standard: u32,
+        meter: u32,
+        answered: u32,
+    ) -> Result<i64, (u8, usize, u8)> {
+        let clocks = Clocks {
+            device,
+            standard,
+            meter,
+        };
         match Waiting::dial(77).identify(clocks, answered) {
             Ok(call) => Ok(call.hang_up().drift()),
             Err(unanswered) => Err(told(unanswered.fault)),
@@ -34,12 +43,18 @@ mod tests {
         check_eq(identified(u32::MAX, u32::MAX, 0, 77), Ok(-4_294_967_295))?;
         check_eq(identified(1000, 1003, 1000, 77), Err((3, 0, 4)))?;
         check_eq(identified(1000, 1000, 1000, 78), Err((4, 0, 4)))?;
-        check_eq(identified(1003, 1000, 1000, 78), Err((3, 0, 4))).note("the clock is checked first")
+        check_eq(identified(1003, 1000, 1000, 78), Err((3, 0, 4))).note(
+            "the clock is checked first",
+        )
     }
 
     #[test]
     fn a_refused_call_waits_on() -> Result<(), Fail> {
-        let clocks = Clocks { device: 5, standard: 9, meter: 5 };
+        let clocks = Clocks {
+            device: 5,
+            standard: 9,
+            meter: 5,
+        };
         match Waiting::dial(77).identify(clocks, 77) {
             Ok(call) => {
                 let _over = call.hang_up();
@@ -65,7 +80,10 @@ mod tests {
         check_eq(answer(&[7, 0, 1, 0, 40, 0, 0, 0, 0, 0]), (8, 0, 1)).note("a byte too many")?;
         let high = [7, 0, 2, 0, 255, 255, 0, 0, 0, 0, 1, 0, 4, 0];
         check_eq(answer(&high), (10, 8, 1)).note("pulses are checked before conditions")?;
-        check_eq(answer(&[7, 0, 2, 0, 1, 0, 0, 0, 1, 0, 0, 0, 3, 4]), (11, 8, 1))
+        check_eq(
+            answer(&[7, 0, 2, 0, 1, 0, 0, 0, 1, 0, 0, 0, 3, 4]),
+            (11, 8, 1),
+        )
     }
 
     #[test]

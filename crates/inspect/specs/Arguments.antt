@@ -27,5 +27,5 @@ given (Err e) f = Err e
 
 abbrev pub argumentsOf : List (Option ℕ) → Result Arguments Fault
 argumentsOf ws = cond (eqb (length ws) 5)
-  (given (wordAt ws 0) (λ dialled. given (wordAt ws 1) (λ answered. given (wordAt ws 2) (λ device. given (wordAt ws 3) (λ standard. given (wordAt ws 4) (λ meter. Ok (record { dialled = dialled; answered = answered; clocks = record { device = device; standard = standard; meter = meter } })))))))
-  (Err (faultAt LineUnreadable 0))
+    (given (wordAt ws 0) (λ dialled. given (wordAt ws 1) (λ answered. given (wordAt ws 2) (λ device. given (wordAt ws 3) (λ standard. given (wordAt ws 4) (λ meter. Ok (record { dialled = dialled; answered = answered; clocks = record { device = device; standard = standard; meter = meter } })))))))
+    (Err (faultAt LineUnreadable 0))

@@ -34,8 +34,16 @@ impl Arguments {
         let device = number(*device)?;
         let standard = number(*standard)?;
         let meter = number(*meter)?;
-        let clocks = Clocks { device, standard, meter };
-        Ok(Arguments { dialled, answered, clocks })
+        let clocks = Clocks {
+            device,
+            standard,
+            meter,
+        };
+        Ok(Arguments {
+            dialled,
+            answered,
+            clocks,
+        })
     }
 }
 
@@ -47,7 +55,9 @@ mod tests {
     fn refused(words: &[Option<u32>]) -> bool {
         match Arguments::from_words(words) {
             Ok(_) => false,
-            Err(fault) => fault.refusal.number() == 27 && fault.position == 0 && fault.layer.number() == 5,
+            Err(fault) => fault.refusal.number() == 27
+                && fault.position == 0
+                && fault.layer.number() == 5,
         }
     }
 

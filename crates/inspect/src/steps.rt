@@ -11,7 +11,12 @@ use std::alloc::Global;
 use std::io;
 use std::io::Write;
 
-pub(crate) fn call_meter<W: Write>(out: &mut W, heap: Global, arguments: &Arguments, bytes: &[u8]) -> io::Result<()> {
+pub(crate) fn call_meter<W: Write>(
+    out: &mut W,
+    heap: Global,
+    arguments: &Arguments,
+    bytes: &[u8],
+) -> io::Result<()> {
     let waiting = Waiting::dial(arguments.dialled);
     let number = waiting.number();
     writeln!(out, "dialled {number}")?;
@@ -29,7 +34,12 @@ pub(crate) fn call_meter<W: Write>(out: &mut W, heap: Global, arguments: &Argume
     }
 }
 
-fn take_delivery<W: Write>(out: &mut W, heap: Global, call: &Identified, bytes: &[u8]) -> io::Result<()> {
+fn take_delivery<W: Write>(
+    out: &mut W,
+    heap: Global,
+    call: &Identified,
+    bytes: &[u8],
+) -> io::Result<()> {
     let drift = call.drift();
     writeln!(out, "identified, drift {drift} seconds")?;
     match call.take_block(bytes) {
@@ -38,7 +48,12 @@ fn take_delivery<W: Write>(out: &mut W, heap: Global, call: &Identified, bytes: 
     }
 }
 
-fn show_stretch<W: Write>(out: &mut W, heap: Global, stretch: &Stretch<'_>, bytes: &[u8]) -> io::Result<()> {
+fn show_stretch<W: Write>(
+    out: &mut W,
+    heap: Global,
+    stretch: &Stretch<'_>,
+    bytes: &[u8],
+) -> io::Result<()> {
     let first = stretch.first();
     let count = stretch.count();
     writeln!(out, "first place {first}, {count} places")?;
@@ -68,7 +83,11 @@ fn write_back<W: Write>(
     let mut buffer = vec![in heap; 0u8; bytes.len()]?;
     match write_block(first, intervals, &mut buffer) {
         Ok(written) => {
-            let same = if buffer.as_slice() == bytes { "the same" } else { "not the same" };
+            let same = if buffer.as_slice() == bytes {
+                "the same"
+            } else {
+                "not the same"
+            };
             writeln!(out, "written back {written} bytes, {same}")
         }
         Err(fault) => writeln!(out, "{fault}"),
