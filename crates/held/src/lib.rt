@@ -1,6 +1,6 @@
 // What a book holds of its meter and its cycle, and what a rule may look at.
 pub mod cycle;
-pub mod opening;
+mod opening;
 pub mod reading;
 pub mod readings;
 pub mod register;

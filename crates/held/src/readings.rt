@@ -4,8 +4,8 @@ ghost use lib.ListN.{take};
 ghost use Rattle.held.specs.Rising.{Rising};
 use crate::reading::Reading;
 
-pub mod regions;
-pub mod table;
+mod regions;
+mod table;
 
 #[derive(Clone, Copy)]
 pub struct Readings {

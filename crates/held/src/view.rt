@@ -11,7 +11,7 @@ use crate::register::Register;
 use crate::usage::Usage;
 use delivery::Interval;
 
-pub mod regions;
+mod regions;
 
 #[derive(Clone, Copy)]
 pub struct Held<'a> {
