@@ -5,3 +5,4 @@ pub mod PastDays
 pub mod Averages
 pub mod Laws
 pub mod PastDaysOf
+pub mod Line

@@ -1,0 +1,5 @@
+mod Filled
+mod Cycles
+mod Adding
+mod Daily
+mod Alike

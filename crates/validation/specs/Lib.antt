@@ -1,0 +1,5 @@
+pub mod Places
+pub mod Conditions
+pub mod Sums
+pub mod Spikes
+pub mod Usage
