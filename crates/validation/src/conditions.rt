@@ -5,6 +5,7 @@ ghost use Rattle.held.specs.DataOf.{dataOf};
 ghost use Rattle.validation.specs.Conditions.{conditionQuestions};
 use crate::rule::Rule;
 use delivery::Condition;
+use delivery::condition::ConditionPartialEq;
 use held::Held;
 
 #[derive(Clone, Copy, Debug)]
@@ -48,5 +49,5 @@ pub impl Rule for TestModeCheck as TestModeCheckRule {
 fn has_condition(held: &Held<'_>, place: usize, condition: Condition) -> bool
     ensures { λ r. ⌜ r ≡ conditionQuestions condition (dataOf (now (held .entry))) place ⌝ }
 {
-    place < held.intervals.len() && held.intervals[place].condition.number() == condition.number()
+    place < held.intervals.len() && held.intervals[place].condition == condition
 }

@@ -136,9 +136,10 @@ fn quarter_hours() -> Result<(), Fail> {
     )
 }
 
-// 99968 to 00294 on five dials: an advance of 326 units.
+// 99968 to 00294 on five dials: an advance of 326 units. One count is from a test, and the others are well above past
+// usage.
 #[test]
-fn region() -> Result<(), Fail> {
+fn readings() -> Result<(), Fail> {
     let cycle = Cycle {
         days: 1,
         places_a_day: 24,
@@ -154,13 +155,23 @@ fn region() -> Result<(), Fail> {
         pulses: 162,
         condition: Condition::Good,
     }; 24];
+    intervals[0] = Interval {
+        pulses: 162,
+        condition: Condition::TestMode,
+    };
+    let past = Some(Usage {
+        pulses: 2_400,
+        places: 24,
+    });
     let held = Held {
         cycle,
         register,
-        past: None,
+        past,
         intervals: &intervals,
         readings: &readings,
     };
+    check_eq(questioned(&TestModeCheck, &held), (0, 1))?;
+    check_eq(questioned(&HighLowCheck, &held), (0, 24))?;
     check_eq(questioned(&SumCheck, &held), (200, 0))?;
     intervals[5] = Interval {
         pulses: 161,
