@@ -3,7 +3,7 @@ ghost use mathlib.Core.Path.{_≡_};
 ghost use Rattle.call.specs.Clocks.{driftOf, deviceOff};
 
 // Seconds by each clock, at the same moment.
-#[derive(Clone, Copy, Debug)]
+#[derive(Clone, Copy)]
 pub struct Clocks {
     pub device: u32,
     pub standard: u32,

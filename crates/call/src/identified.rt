@@ -7,7 +7,6 @@ use crate::over::Over;
 use delivery::Stretch;
 use fault::Fault;
 
-#[derive(Debug)]
 pub struct Identified {
     pub(crate) number: u32,
     pub(crate) drift: i64,

@@ -5,15 +5,14 @@ use crate::clocks::Clocks;
 use crate::identified::Identified;
 use fault::Fault;
 use fault::Refusal;
-use fault::record::FaultDebug;
 
-#[derive(Drop, Debug)]
+#[derive(Drop)]
 pub struct Waiting {
     pub(crate) number: u32,
 }
 
 // A refused identification: why, and the waiting call, which may be tried again.
-#[derive(Drop, Debug)]
+#[derive(Drop)]
 pub struct Unanswered {
     pub call: Waiting,
     pub fault: Fault,

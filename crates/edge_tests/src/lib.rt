@@ -31,7 +31,7 @@ mod tests {
             meter,
         };
         match Waiting::dial(77).identify(clocks, answered) {
-            Ok(call) => Ok(call.hang_up().drift()),
+            Ok(call) => Ok(call.hang_up().drift),
             Err(unanswered) => Err(told(unanswered.fault)),
         }
     }

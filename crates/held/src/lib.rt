@@ -13,6 +13,3 @@ pub use readings::Readings;
 pub use register::Register;
 pub use usage::Usage;
 pub use view::Held;
-
-#[cfg(test)]
-mod tests;

@@ -1,5 +1,5 @@
 // One reading of the register: what it showed at a boundary, which stands before the place of that number.
-#[derive(Clone, Copy, PartialEq, Eq, Debug)]
+#[derive(Clone, Copy)]
 pub struct Reading {
     pub boundary: u16,
     pub register: u32,

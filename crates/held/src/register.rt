@@ -3,7 +3,7 @@ ghost use mathlib.Core.Path.{_≡_};
 ghost use Prim.Native.Nat.{_^_, _≤_, _<_};
 ghost use Rattle.held.specs.Regions.{advanceBetween};
 
-#[derive(Clone, Copy, Debug)]
+#[derive(Clone, Copy)]
 pub struct Register {
     pub dials: u8,
     // pulses that make one unit, a step of the register
@@ -29,7 +29,7 @@ impl Register {
     }
 
     // How far the dials went from one reading to a later one.
-    pub fn advance(&self, earlier: u32, later: u32) -> u32
+    pub(crate) fn advance(&self, earlier: u32, later: u32) -> u32
         ensures units { λ r. ⌜ r ≡ advanceBetween (now (self .entry) .dials) earlier later ⌝ }
         ensures few { λ r. ⌜ r < 1000000 ⌝ }
     {

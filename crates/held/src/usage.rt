@@ -1,7 +1,7 @@
 // Past usage: the pulses counted over places before the cycle.
 ghost use Prim.Native.Nat.{_*_, _≤_};
 
-#[derive(Clone, Copy, Debug)]
+#[derive(Clone, Copy)]
 pub struct Usage {
     pub pulses: u32,
     pub places: u16,

@@ -1,5 +1,5 @@
 -- Which refusals the calls give.
-use mathlib.Core.Path.{_≡_, refl, sym, subst}
+use mathlib.Core.Path.{_≡_, refl, subst}
 use mathlib.Core.Bool.{Bool, true, false}
 use mathlib.Core.List.{List, [], _∷_}
 use Prim.Native.Nat.{ℕ}
@@ -12,7 +12,7 @@ use Rattle.fault.specs.declared.refusal.Refusal.{Refusal}
 use Rattle.fault.specs.declared.refusal.Refusal.the-variants.{ConditionUnknown, PulsesTooHigh, PlacesPastCycle, BlockMisshapen, DriftTooLarge, OtherMeterDelivers, BookPosted, ReadingBeyondDials, BoundaryNotRising, ReadingsFull, RuleRunAlready, RuleNotOwed, PlaceNotVerifiable, PlacesOrRegionUnfit, RuleStillOwing, TotalWeightZero, PlaceWithoutWeight, MeasuredAboveAdvance, NothingToChange, RegionOutOfBalance, PlaceStillOpen}
 use Rattle.fault.specs.Faults.{faultAt}
 use Rattle.fault.specs.Numbers.{refusalNumber}
-use Rattle.history.specs.Answers.{Answer, done, totalled, refused, answerBy, refusal, returned, when, at, first, checks}
+use Rattle.history.specs.Answers.{Answer, refused, answerBy, refusal, returned, when, at, first, checks}
 use Rattle.history.specs.Calls.{Call, delivery, reading, rule, verification, settlement, filling, withdrawal, posting}
 use Rattle.history.specs.Model.{Model}
 use Rattle.history.specs.Sanity.{OfBook, ofBook, positioned, RefusedAsListed}

@@ -3,12 +3,12 @@ use mathlib.Core.Path.{_≡_, refl, sym, ap, subst, _∙_}
 use mathlib.Core.Bool.{Bool, true, false, cond, not, _&&_}
 use mathlib.Core.List.{List, [], _∷_}
 use mathlib.Core.Logic.{_⊎_, inl, inr, ⊎-elim}
-use Prim.Native.Nat.{ℕ, zero, suc, _+_, _-_, _≤_, _<_}
+use Prim.Native.Nat.{ℕ, suc, _+_, _-_, _≤_, _<_}
 use native.Mathlib.Omega.{arith}
-use lib.Dec.{eqb, leb, ltb}
-use lib.ListN.{length, getD, take, drop, length-drop}
+use lib.Dec.{eqb, ltb}
+use lib.ListN.{length, getD, drop, length-drop}
 use Rattle.std.specs.declared.option.Option.{Option}
-use Rattle.std.specs.declared.option.Option.the-variants.{Some, None}
+use Rattle.std.specs.declared.option.Option.the-variants.{None}
 use Rattle.std.specs.shelf.Lists.{sum}
 use Rattle.std.proofs.shelf.Lists.{ext-getD, getD-drop, getD-take, length-take-le}
 use Rattle.std.proofs.shelf.Tests.{and-parts, both-ways, cases-bool, cond-true, cond-false, lt-leb, ltb-true}
@@ -29,7 +29,7 @@ use Rattle.history.specs.Calls.{settlement, withdrawal, Weighing, amountOf, es
 use Rattle.history.specs.History.{History, Of, accepted}
 use Rattle.history.specs.Model.{Model, places, rawState, stateAt, statusAt, entryAt, isEstimated, isMeasured, startOf, endOf, lengthOf, advanceOf, measuredOf, someIn, pulsesAt}
 use Rattle.history.specs.Sanity.{Resettled, SettledAgain}
-use Rattle.history.specs.Stretches.{part, rewritten, anyWhere, total}
+use Rattle.history.specs.Stretches.{part}
 use Rattle.history.proofs.Kept.{Words, wordsOf, Kept}
 use Rattle.history.proofs.SettledOnce.{Settleable, passed-by, settleable}
 use Rattle.history.proofs.Stretches.{anywhere-no, length-overwritten, getD-overwritten, getD-overwritten-before, getD-overwritten-behind, length-rewritten, getD-rewritten, getD-rewritten-before, getD-rewritten-behind, in-or-out, total-ext, anywhere-ext}

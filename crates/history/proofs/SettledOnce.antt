@@ -1,8 +1,8 @@
 -- After a settlement no place of the region is open.
-use mathlib.Core.Path.{_≡_, refl, sym, ap, _∙_}
-use mathlib.Core.Bool.{Bool, true, false, cond, not}
+use mathlib.Core.Path.{_≡_, refl, ap, _∙_}
+use mathlib.Core.Bool.{Bool, true, false, not}
 use mathlib.Core.List.{List, [], _∷_, _++_}
-use mathlib.Core.Logic.{_⊎_, ⊎-elim}
+use mathlib.Core.Logic.{⊎-elim}
 use Prim.Native.Nat.{ℕ, _+_, _-_, _≤_, _<_}
 use native.Mathlib.Omega.{arith}
 use lib.ListN.{length, getD, take, drop, length-drop}
@@ -16,9 +16,8 @@ use Rattle.fault.specs.declared.refusal.Refusal.the-variants.{BookPosted, RuleS
 use Rattle.fault.specs.Faults.{faultAt}
 use Rattle.held.specs.Regions.{inner}
 use Rattle.sharing.specs.declared.state.State.{State}
-use Rattle.sharing.specs.declared.state.Status.{Status}
 use Rattle.sharing.specs.Weights.{isOpen, openStatus}
-use Rattle.history.specs.Answers.{Answer, done, refused, answerBy, afterBy, answer, after, refusal, when, first, owes, checks}
+use Rattle.history.specs.Answers.{Answer, done, answerBy, afterBy, answer, refusal, when, first, owes}
 use Rattle.history.specs.Calls.{settlement, Weighing, settled, estimatedBy}
 use Rattle.history.specs.History.{accepted}
 use Rattle.history.specs.Model.{Model, rawState, stateAt, startOf, lengthOf, someIn}

@@ -3,7 +3,7 @@ ghost use Rattle.profile.specs.Meanings.{flatWeight};
 use crate::method::Method;
 use crate::weighing::Profile;
 
-#[derive(Clone, Copy, Debug)]
+#[derive(Clone, Copy)]
 pub struct Flat;
 
 pub impl Profile for Flat as FlatProfile {

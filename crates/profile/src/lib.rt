@@ -11,6 +11,3 @@ pub use method::Method;
 pub use pair::Pair;
 pub use reference_days::ReferenceDays;
 pub use weighing::Profile;
-
-#[cfg(test)]
-mod tests;

@@ -5,7 +5,7 @@ ghost use Rattle.std.specs.Options.{isSome};
 ghost use Rattle.profile.specs.Meanings.{pairWeight};
 use crate::weighing::Profile;
 
-#[derive(Debug, Drop)]
+#[derive(Drop)]
 pub struct Pair<P, Q> {
     pub first: P,
     pub second: Q,

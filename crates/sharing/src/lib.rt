@@ -1,8 +1,6 @@
 // What the book has found out about a place, and the sharing of an amount over the open ones.
 pub mod estimate;
 pub mod state;
-#[cfg(test)]
-mod tests;
 mod weighing;
 
 pub use estimate::share;

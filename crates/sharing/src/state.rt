@@ -2,7 +2,7 @@
 ghost use mathlib.Core.Path.{_≡_};
 ghost use Rattle.sharing.specs.Weights.{openStatus};
 
-#[derive(Clone, Copy, PartialEq, Eq, Debug)]
+#[derive(Clone, Copy)]
 pub enum Status {
     Raw,
     Measured,
@@ -23,7 +23,7 @@ impl Status {
     }
 }
 
-#[derive(Clone, Copy, PartialEq, Eq, Debug)]
+#[derive(Clone, Copy)]
 pub struct State {
     pub status: Status,
     // one bit for each rule that questions the place

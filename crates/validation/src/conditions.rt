@@ -8,10 +8,10 @@ use delivery::Condition;
 use delivery::condition::ConditionPartialEq;
 use held::Held;
 
-#[derive(Clone, Copy, Debug)]
+#[derive(Clone, Copy)]
 pub struct OverflowCheck;
 
-#[derive(Clone, Copy, Debug)]
+#[derive(Clone, Copy)]
 pub struct TestModeCheck;
 
 pub impl Rule for OverflowCheck as OverflowCheckRule {

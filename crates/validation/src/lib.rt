@@ -5,8 +5,6 @@ mod places;
 pub mod rule;
 pub mod spike;
 pub mod sum;
-#[cfg(test)]
-mod tests;
 
 pub use conditions::OverflowCheck;
 pub use conditions::TestModeCheck;

@@ -13,7 +13,7 @@ use held::Held;
 use peaks::shows_spike;
 use peaks::spike_of;
 
-#[derive(Clone, Copy, Debug)]
+#[derive(Clone, Copy)]
 pub struct SpikeCheck;
 
 pub impl Rule for SpikeCheck as SpikeCheckRule {

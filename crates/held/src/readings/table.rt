@@ -31,7 +31,7 @@ impl Readings {
         }
     }
 
-    pub fn as_slice(&self) -> &[Reading]
+    pub(crate) fn as_slice(&self) -> &[Reading]
         ensures value { λ r. ⌜ now r ≡ rows (now (self .entry)) ⌝ }
         ensures few { λ r. ⌜ length (now r) ≤ 32 ⌝ }
     {

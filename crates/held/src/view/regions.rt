@@ -11,7 +11,7 @@ use crate::view::Held;
 use delivery::Interval;
 
 impl<'a> Held<'a> {
-    pub fn places(&self) -> usize
+    pub(crate) fn places(&self) -> usize
         ensures product { λ r. ⌜ r ≡ places (dataOf (now (self .entry))) ⌝ }
         ensures whole { λ r. ⌜ r ≡ length (dataOf (now (self .entry)) .intervals) ⌝ }
         ensures few { λ r. ⌜ r ≤ 2976 ⌝ }
@@ -25,13 +25,13 @@ impl<'a> Held<'a> {
         self.readings.region_of(place)
     }
 
-    pub fn region_start(&self, region: usize) -> usize
+    pub(crate) fn region_start(&self, region: usize) -> usize
         ensures { λ r. ⌜ r ≡ regionStart (dataOf (now (self .entry)) .readings) region ⌝ }
     {
         self.readings.region_start(region)
     }
 
-    pub fn region_end(&self, region: usize) -> usize
+    pub(crate) fn region_end(&self, region: usize) -> usize
         ensures place { λ r. ⌜ r ≡ regionEnd (places (dataOf (now (self .entry)))) (dataOf (now (self .entry)) .readings) region ⌝ }
         ensures ordered { λ _. ⌜ Ordered (places (dataOf (now (self .entry)))) (dataOf (now (self .entry)) .readings) region ⌝ }
         ensures inside { λ r. ⌜ r ≤ length (dataOf (now (self .entry)) .intervals) ⌝ }

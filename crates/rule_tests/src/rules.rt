@@ -2,17 +2,6 @@
 ghost use mathlib.Core.Path.{_≡_};
 ghost use Prim.Native.Nat.{_*_};
 ghost use lib.ListN.{length};
-use crate::conditions::OverflowCheck;
-use crate::conditions::OverflowCheckRule;
-use crate::conditions::TestModeCheck;
-use crate::conditions::TestModeCheckRule;
-use crate::high_low::HighLowCheck;
-use crate::high_low::HighLowCheckRule;
-use crate::rule::Rule;
-use crate::spike::SpikeCheck;
-use crate::spike::SpikeCheckRule;
-use crate::sum::SumCheck;
-use crate::sum::SumCheckRule;
 use delivery::Condition;
 use delivery::Interval;
 use fault::record::FaultDebug as _;
@@ -22,6 +11,17 @@ use held::Readings;
 use held::Register;
 use held::Usage;
 use std::test::*;
+use validation::conditions::OverflowCheck;
+use validation::conditions::OverflowCheckRule;
+use validation::conditions::TestModeCheck;
+use validation::conditions::TestModeCheckRule;
+use validation::high_low::HighLowCheck;
+use validation::high_low::HighLowCheckRule;
+use validation::rule::Rule;
+use validation::spike::SpikeCheck;
+use validation::spike::SpikeCheckRule;
+use validation::sum::SumCheck;
+use validation::sum::SumCheckRule;
 
 const GOOD: Interval = Interval {
     pulses: 20,

@@ -1,14 +1,14 @@
 // Reference days of 24 places over four weeks. Day 6 lies a week before the cycle's first day.
-use crate::flat::Flat;
-use crate::flat::FlatProfile;
-use crate::pair::Pair;
-use crate::pair::PairProfile;
-use crate::reference_days::ReferenceDays;
-use crate::reference_days::ReferenceDaysProfile;
-use crate::weighing::Profile;
 use fault::Fault;
 use fault::Refusal;
 use fault::record::FaultPartialEq as _;
+use profile::flat::Flat;
+use profile::flat::FlatProfile;
+use profile::pair::Pair;
+use profile::pair::PairProfile;
+use profile::reference_days::ReferenceDays;
+use profile::reference_days::ReferenceDaysProfile;
+use profile::weighing::Profile;
 use std::test::*;
 
 // Counts at five o'clock: those of the first weekday in the last four weeks, the newest first, and one of the next.

@@ -2,9 +2,6 @@
 ghost use mathlib.Core.Bool.{cond};
 ghost use lib.Dec.{eqb};
 ghost use Rattle.std.specs.declared.option.Option.the-variants.{Some, None};
-use crate::share;
-use crate::state::State;
-use crate::state::Status;
 use fault::Fault;
 use fault::Refusal;
 use fault::record::FaultDebug;
@@ -12,6 +9,9 @@ use fault::record::FaultPartialEq;
 use profile::Flat;
 use profile::Profile;
 use profile::flat::FlatProfile;
+use sharing::share;
+use sharing::state::State;
+use sharing::state::Status;
 use std::test::*;
 
 // The weights 1, 2 and 4 at the places 5 to 7, 0 at place 8, and none elsewhere.

@@ -1,9 +1,9 @@
 // Examples of the table and its regions.
-use crate::cycle::Cycle;
-use crate::readings::Readings;
-use crate::register::Register;
 use fault::Fault;
 use fault::record::FaultDebug;
+use held::Cycle;
+use held::Readings;
+use held::Register;
 use std::test::*;
 
 // The number of the refusal, 0 where there is none.
