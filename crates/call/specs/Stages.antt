@@ -1,5 +1,5 @@
 -- A call from dialling to hanging up.
-use mathlib.Core.Bool.{cond, not}
+use mathlib.Core.Bool.{cond}
 use Prim.Native.Nat.{ℕ}
 use lib.Dec.{eqb}
 use Rattle.std.specs.declared.result.Result.{Result}

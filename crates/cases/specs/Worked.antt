@@ -1,9 +1,8 @@
 -- The worked cases of the rules, as facts about the definitions.
 use mathlib.Core.Path.{_≡_}
-use mathlib.Core.Bool.{Bool, true, false}
+use mathlib.Core.Bool.{true, false}
 use mathlib.Core.List.{List, [], _∷_, map}
 use Prim.Native.Nat.{ℕ}
-use Rattle.std.specs.declared.option.Option.{Option}
 use Rattle.std.specs.declared.option.Option.the-variants.{Some, None}
 use Rattle.delivery.specs.declared.condition.Condition.the-variants.{Good}
 use Rattle.delivery.specs.declared.interval.Interval.{Interval}

@@ -7,8 +7,6 @@ mod tests {
     use delivery::Condition;
     use delivery::Interval;
     use delivery::Stretch;
-    use delivery::interval::IntervalDebug;
-    use delivery::interval::IntervalPartialEq;
     use delivery::write_block;
     use fault::Fault;
     use fault::record::FaultDisplay;
@@ -96,7 +94,13 @@ mod tests {
         check_eq(write_block(258, &[over], &mut buffer).ok(), Some(9))?;
         check_eq(buffer, [2, 1, 1, 0, 1, 2, 0, 0, 1, 9, 9])?;
         match Stretch::read(&buffer[0..9]) {
-            Ok(stretch) => check_eq((stretch.first(), stretch.interval(0)), (258, Some(over))),
+            Ok(stretch) => match stretch.interval(0) {
+                Some(read) => check_eq(
+                    (stretch.first(), read.pulses, read.condition.number()),
+                    (258, 513, 1),
+                ),
+                None => Err(Fail::new("no place")),
+            },
             Err(_) => Err(Fail::new("refused")),
         }
     }

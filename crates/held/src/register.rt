@@ -16,7 +16,7 @@ pub struct Register {
 
 impl Register {
     // The number that the dials cannot show any more: past the one before it they begin again at 0.
-    pub fn modulus(&self) -> u32
+    pub(crate) fn modulus(&self) -> u32
         ensures power { λ r. ⌜ r ≡ 10 ^ now (self .entry) .dials ⌝ }
         ensures some { λ r. ⌜ 0 < r ⌝ }
         ensures few { λ r. ⌜ r ≤ 1000000 ⌝ }

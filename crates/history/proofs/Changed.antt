@@ -1,7 +1,7 @@
 -- Calls that change the states and values of some places and nothing else: what has to be shown of the places, and
 -- that regions whose places stay keep what they had.
-use mathlib.Core.Path.{_≡_, refl, sym, ap, subst, _∙_}
-use mathlib.Core.Bool.{Bool, true, false, cond, not, _&&_}
+use mathlib.Core.Path.{_≡_, sym, ap, subst, _∙_}
+use mathlib.Core.Bool.{Bool, true, false, cond}
 use mathlib.Core.List.{List}
 use mathlib.Core.Logic.{_⊎_, inl, inr, ⊎-elim}
 use Prim.Native.Nat.{ℕ, _+_, _-_, _≤_, _<_}
@@ -9,10 +9,9 @@ use native.Mathlib.Omega.{arith}
 use lib.Dec.{ltb}
 use lib.ListN.{length, getD}
 use Rattle.std.specs.declared.option.Option.{Option}
-use Rattle.std.specs.declared.option.Option.the-variants.{Some, None}
 use Rattle.std.proofs.shelf.Tests.{cases-lt, cases-eq, both-ways, and-parts, ltb-true}
 use Rattle.held.specs.declared.reading.Reading.{Reading}
-use Rattle.held.specs.Laws.{Ordered, OnlyRegion}
+use Rattle.held.specs.Laws.{Ordered}
 use Rattle.held.specs.Regions.{inner, regionCount}
 use Rattle.held.proofs.Covering.{region-covers, regions-ordered}
 use Rattle.sharing.specs.declared.state.State.{State}
@@ -22,8 +21,8 @@ use Rattle.sharing.specs.Laws.{Near}
 use Rattle.sharing.specs.Weights.{weightOf, openStatus}
 use Rattle.history.specs.Answers.{owes}
 use Rattle.history.specs.Calls.{Weighing, changedTo}
-use Rattle.history.specs.Model.{Model, places, pulsesAt, soundAt, stateAt, statusAt, entryAt, isMeasured, isEstimated, rawState, startOf, endOf, lengthOf, advanceOf, someIn, valuesOf}
-use Rattle.history.specs.Stretches.{total, anyWhere}
+use Rattle.history.specs.Model.{Model, places, pulsesAt, soundAt, stateAt, statusAt, entryAt, isMeasured, isEstimated, rawState, startOf, endOf, lengthOf, advanceOf, someIn}
+use Rattle.history.specs.Stretches.{total}
 use Rattle.history.proofs.Kept.{Words, Kept, SettledIn, sharedAmount, sharedWeight}
 use Rattle.history.proofs.Stretches.{total-ext, anywhere-ext}
 

@@ -19,7 +19,8 @@ use Rattle.sharing.specs.declared.state.Status.{Status}
 use Rattle.sharing.specs.declared.state.Status.the-variants.{Raw, Measured, Verified, Open, Estimated}
 use Rattle.sharing.specs.Laws.{Near}
 use Rattle.sharing.specs.Weights.{weightOf, openStatus}
-use Rattle.history.specs.Answers.{owes, apart}
+use Rattle.validation.specs.Places.{apart}
+use Rattle.history.specs.Answers.{owes}
 use Rattle.history.specs.History.{History, deliveredAt, wasPosted}
 use Rattle.history.specs.Law.{Law, Settled, Posted, isInner, hasEstimate, estimatedIn, value}
 use Rattle.history.specs.Model.{Opening, Model, placesOf, places, pulsesAt, statusAt, entryAt, valueOf, valueAt, isMeasured, isEstimated, startOf, endOf, lengthOf, advanceOf, allowedOf, someIn, valuesOf}

@@ -1,21 +1,20 @@
 -- Stretches place by place.
-use mathlib.Core.Path.{_≡_, refl, sym, ap, subst, _∙_}
-use mathlib.Core.Bool.{Bool, true, false, cond, not, _&&_, _||_}
-use mathlib.Core.List.{List, [], _∷_, _++_, map}
+use mathlib.Core.Path.{_≡_, refl, sym, ap, _∙_}
+use mathlib.Core.Bool.{Bool, true, false, cond, _||_}
+use mathlib.Core.List.{List, [], _∷_, _++_}
 use mathlib.Core.Logic.{_⊎_, inl, inr, ⊎-elim}
 use Prim.Native.Nat.{ℕ, zero, suc, _+_, _-_, _≤_, _<_}
 use native.Mathlib.Nat.{add-zero}
 use native.Mathlib.Omega.{arith}
-use lib.Dec.{leb, ltb}
-use lib.ListN.{length, getD, take, drop, length-drop, length-append, length-take}
+use lib.ListN.{length, getD, take, drop, length-drop, length-append}
 use Rattle.std.specs.declared.option.Option.{Option}
 use Rattle.std.specs.declared.option.Option.the-variants.{Some, None}
 use Rattle.std.specs.shelf.Lists.{sum}
 use Rattle.std.proofs.shelf.Counted.{getD-map-counting, length-map-counting}
 use Rattle.std.proofs.shelf.Lists.{getD-append-left, getD-append-right, getD-take, getD-drop, length-take-le}
 use Rattle.std.proofs.shelf.Sums.{sumBy-cons}
-use Rattle.std.proofs.shelf.Tests.{or-parts, or-left, or-right, or-from, cases-lt, cases-bool, cases-eq, and-from, le-leb, lt-ltb}
-use Rattle.history.specs.Stretches.{over, inStretch, overwritten, rewritten, part, firstWhere, anyWhere, total}
+use Rattle.std.proofs.shelf.Tests.{or-parts, or-left, or-right, or-from, cases-lt, cases-eq, and-from, le-leb, lt-ltb}
+use Rattle.history.specs.Stretches.{over, inStretch, overwritten, rewritten, firstWhere, anyWhere, total}
 
 pub length-over : {X : Type 0} (a n : ℕ) (f : ℕ → X) → length (over a n f) ≡ n
 length-over a n f = length-map-counting f a n

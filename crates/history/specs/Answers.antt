@@ -16,8 +16,9 @@ use Rattle.fault.specs.Faults.{faultAt}
 use Rattle.held.specs.Entering.{aboveLast}
 use Rattle.held.specs.Regions.{regionCount, inner}
 use Rattle.sharing.specs.Weights.{isOpen, openStatus, unweighted}
-use Rattle.history.specs.Calls.{Call, delivery, reading, rule, verification, settlement, filling, withdrawal, posting, Weighing, changed, amountOf, statesIn, weightsIn}
-use Rattle.history.specs.Model.{Model, hasBit, places, soundAt, stateAt, statusAt, isEstimated, entryAt, startOf, advanceOf, allowedOf, someIn, valuesOf, measuredOf}
+use Rattle.validation.specs.Places.{apart}
+use Rattle.history.specs.Calls.{Call, delivery, reading, rule, verification, settlement, filling, withdrawal, posting, changed, amountOf, statesIn, weightsIn}
+use Rattle.history.specs.Model.{Model, hasBit, places, soundAt, stateAt, isEstimated, entryAt, startOf, advanceOf, allowedOf, someIn, valuesOf, measuredOf}
 use Rattle.history.specs.Stretches.{firstWhere, total}
 
 -- Which meter's deliveries a book takes.
@@ -28,10 +29,6 @@ takesFrom m number = eqb number (m .opening .number)
 abbrev pub driftBeyond : ℕ → ℤ → Bool
 driftBeyond limit (pos s) = ltb limit s
 driftBeyond limit (negsuc s) = ltb limit (suc s)
-
--- how far two numbers are apart
-abbrev pub apart : ℕ → ℕ → ℕ
-apart a b = (a - b) + (b - a)
 
 -- a refusal where something holds, and one that names where
 abbrev pub when : Refusal → Bool → Option Fault

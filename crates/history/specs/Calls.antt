@@ -1,11 +1,11 @@
 -- The calls that change a book, and what each changes when it is accepted.
 use mathlib.Core.Bool.{Bool, true, false, cond, _&&_}
 use mathlib.Core.List.{List, [], _∷_, _++_}
-use Prim.Native.Nat.{ℕ, _+_, _-_, _*_, _^_}
+use Prim.Native.Nat.{ℕ, _-_, _^_}
 use lib.Bits.{bitOr}
 use lib.Dec.{eqb}
 use lib.IntN.{ℤ}
-use lib.ListN.{length, replicate}
+use lib.ListN.{replicate}
 use Rattle.std.specs.declared.option.Option.{Option}
 use Rattle.std.specs.declared.option.Option.the-variants.{Some, None}
 use Rattle.std.specs.shelf.Lists.{sum}
@@ -14,10 +14,10 @@ use Rattle.delivery.specs.declared.interval.Interval.{Interval}
 use Rattle.held.specs.HeldData.{HeldData}
 use Rattle.sharing.specs.declared.state.State.{State}
 use Rattle.sharing.specs.declared.state.Status.{Status}
-use Rattle.sharing.specs.declared.state.Status.the-variants.{Raw, Measured, Verified, Open, Estimated}
+use Rattle.sharing.specs.declared.state.Status.the-variants.{Measured, Verified, Open, Estimated}
 use Rattle.sharing.specs.Shares.{shares, placed}
 use Rattle.sharing.specs.Weights.{isOpen, weightOf, weights}
-use Rattle.history.specs.Model.{Model, Opening, places, placesOf, intervalAt, pulsesAt, soundAt, stateAt, statusAt, entryAt, isEstimated, heldOf, startOf, endOf, lengthOf, advanceOf, measuredOf, rawState}
+use Rattle.history.specs.Model.{Model, Opening, places, placesOf, pulsesAt, soundAt, stateAt, statusAt, entryAt, isEstimated, heldOf, startOf, endOf, lengthOf, advanceOf, measuredOf, rawState}
 use Rattle.history.specs.Stretches.{over, overwritten, rewritten, part}
 
 -- what a profile means, and what a rule means

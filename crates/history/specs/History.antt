@@ -6,13 +6,11 @@ use mathlib.Core.List.{List, [], _∷_, _++_}
 use mathlib.Core.Logic.{_⊎_}
 use Prim.Native.Nat.{ℕ, _-_}
 use lib.Dec.{eqb}
-use lib.IntN.{ℤ}
 use lib.ListN.{length, getD}
 use Rattle.std.specs.declared.option.Option.{Option}
 use Rattle.std.specs.declared.option.Option.the-variants.{Some, None}
 use Rattle.delivery.specs.Blocks.{blockParts}
 use Rattle.delivery.specs.declared.interval.Interval.{Interval}
-use Rattle.fault.specs.declared.record.Fault.{Fault}
 use Rattle.held.specs.declared.reading.Reading.{Reading}
 use Rattle.held.specs.HeldData.{HeldData}
 use Rattle.history.specs.Answers.{Answer, done, totalled, refused, answer, after}

@@ -1,18 +1,14 @@
 -- The law of runs: what holds of the statuses and values of a book after every history that leads to it, in words of
 -- the history alone.
 use mathlib.Core.Path.{_≡_}
-use mathlib.Core.Bool.{Bool, true, false, cond, not, _&&_}
-use mathlib.Core.List.{List}
+use mathlib.Core.Bool.{Bool, true, false, cond}
 use mathlib.Core.Logic.{_⊎_}
 use Prim.Native.Nat.{ℕ, _+_, _-_, _*_, _≤_, _<_}
 use lib.ListN.{length}
-use Rattle.std.specs.declared.option.Option.{Option}
-use Rattle.std.specs.declared.option.Option.the-variants.{Some, None}
+use Rattle.std.specs.declared.option.Option.the-variants.{Some}
 use Rattle.std.specs.Options.{isSome, valueOr}
 use Rattle.delivery.specs.Conditions.{sound}
 use Rattle.held.specs.Regions.{regionStart, regionEnd, inner, advance, allowedUnits}
-use Rattle.sharing.specs.declared.state.Status.{Status}
-use Rattle.sharing.specs.declared.state.Status.the-variants.{Open, Estimated}
 use Rattle.sharing.specs.Laws.{Near}
 use Rattle.sharing.specs.Weights.{weightOf, openStatus}
 use Rattle.history.specs.Calls.{Weighing}
@@ -59,7 +55,8 @@ pub record Measured (h : History) (m : Model) : Type 0 where
   pub counted : (i : ℕ) → i < placesIn h → isMeasured (statusAt m i) ≡ true → valueAt m i ≡ Some (deliveredAt h i .pulses)
   pub doubtful : (i : ℕ) → i < placesIn h → estimatedIn m i ≡ true → (sound (deliveredAt h i .condition) ≡ false) ⊎ Questioned h i
 
--- What was shared in a region: its advance less the pulses delivered to its places without estimate.
+-- What was shared in a region: its advance less the pulses delivered to its places without estimate. The difference is
+-- never cut off at 0, since the values of a settled region add to its advance.
 abbrev pub amount : History → Model → ℕ → ℕ
 amount h m k = advanced h k - inRegion h k (λ i. cond (estimatedIn m i) 0 (deliveredAt h i .pulses))
 

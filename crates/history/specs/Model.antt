@@ -1,8 +1,8 @@
 -- The plain book of one meter's cycle.
-use mathlib.Core.Bool.{Bool, true, false, cond, not, _&&_, _||_}
+use mathlib.Core.Bool.{Bool, true, false, cond, _&&_}
 use mathlib.Core.List.{List, []}
-use Prim.Native.Nat.{ℕ, _+_, _-_, _*_, _/_, _%_, _^_, _≤_}
-use lib.Dec.{eqb, ltb, leb}
+use Prim.Native.Nat.{ℕ, _-_, _*_, _/_, _%_, _^_}
+use lib.Dec.{eqb, leb}
 use lib.ListN.{getD, replicate}
 use Rattle.std.specs.declared.option.Option.{Option}
 use Rattle.std.specs.declared.option.Option.the-variants.{Some, None}
@@ -12,7 +12,7 @@ use Rattle.delivery.specs.declared.interval.Interval.{Interval}
 use Rattle.held.specs.declared.reading.Reading.{Reading}
 use Rattle.held.specs.HeldData.{HeldData}
 use Rattle.held.specs.Limits.{cycleLimits, registerLimits}
-use Rattle.held.specs.Regions.{regionStart, regionEnd, regionCount, inner, advance, allowedUnits}
+use Rattle.held.specs.Regions.{regionStart, regionEnd, advance, allowedUnits}
 use Rattle.sharing.specs.declared.state.State.{State}
 use Rattle.sharing.specs.declared.state.Status.{Status}
 use Rattle.sharing.specs.declared.state.Status.the-variants.{Raw, Measured, Verified, Open, Estimated}

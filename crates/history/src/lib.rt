@@ -22,20 +22,11 @@ pub fn calls_make_histories()
     ensures { λ _. ⌜ Leading ⌝ }
 {}
 
-pub fn openings_have_limits()
-    ensures { λ _. ⌜ Limited ⌝ }
-{}
-
-pub fn histories_tell()
-    ensures { λ _. ⌜ Told ⌝ }
-{}
-
-pub fn printed_example_comes_out()
-    ensures { λ _. ⌜ Printed ⌝ }
-{}
-
-pub fn each_kind_of_call_is_accepted()
-    ensures { λ _. ⌜ Edited ⌝ }
+pub fn examples_come_out()
+    ensures limits { λ _. ⌜ Limited ⌝ }
+    ensures printed { λ _. ⌜ Printed ⌝ }
+    ensures edited { λ _. ⌜ Edited ⌝ }
+    ensures told { λ _. ⌜ Told ⌝ }
 {}
 
 pub fn each_outcome_is_reached()

@@ -28,7 +28,7 @@ pub impl Rule for SumCheck as SumCheckRule {
         in_cycle(
             held,
             place,
-            is_region_questioned(held, held.region_of(place)),
+            is_region_questioned(held, held.readings.region_of(place)),
         )
     }
 
@@ -40,7 +40,7 @@ pub impl Rule for SumCheck as SumCheckRule {
         let mut region = 0;
         let mut questioned = is_region_questioned(held, region);
         for place in 0..answers.len() {
-            let here = held.region_of(place);
+            let here = held.readings.region_of(place);
             if here != region {
                 region = here;
                 questioned = is_region_questioned(held, region);
@@ -54,9 +54,9 @@ fn is_region_questioned(held: &Held<'_>, region: usize) -> bool
     ensures { λ r. ⌜ r ≡ regionQuestioned (dataOf (now (held .entry))) region ⌝ }
 {
     let intervals = held.region_intervals(region);
-    let units = held.advance(region);
+    let units = held.readings.advance(region, &held.register);
     let allowed = held.readings.allowed_units(region);
-    held.is_inner(region)
+    held.readings.is_inner(region)
         && all_sound(intervals)
         && is_beyond_allowed(
             held.register.pulses_per_unit,

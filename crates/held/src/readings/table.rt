@@ -38,7 +38,7 @@ impl Readings {
         &self.entries[0..self.count]
     }
 
-    pub fn len(&self) -> usize
+    pub(crate) fn len(&self) -> usize
         ensures count { λ r. ⌜ r ≡ length (rows (now (self .entry))) ⌝ }
         ensures few { λ r. ⌜ r ≤ 32 ⌝ }
     {

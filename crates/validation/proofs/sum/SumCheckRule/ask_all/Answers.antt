@@ -18,8 +18,8 @@ use Rattle.validation.proofs.sum.SumCheckRule.ask_all.Needs.{then-here-region,
 region-is : (c : need.After-in-cycle) → c .if-here-region .region ≡ regionAt (dataOf (c .args .held .now) .readings) (c .loop-place .place)
 region-is c =
     elim (c .if-here-region .came) [
-      | then-here-region w ↦ w .region-is ∙ c .region-of-here .ensures
-      | else-here-region w ↦ w .region-is ∙ sym (w .if-here-region .left) ∙ c .region-of-here .ensures
+      | then-here-region w ↦ w .region-is ∙ c .region-of-here .ensures .count
+      | else-here-region w ↦ w .region-is ∙ sym (w .if-here-region .left) ∙ c .region-of-here .ensures .count
     ]
 
 questioned-is : (c : need.After-in-cycle) → c .if-here-region .questioned ≡ regionQuestioned (dataOf (c .args .held .now)) (c .if-here-region .region)
