@@ -2,6 +2,7 @@
 // tests is proved twice.
 #[cfg(test)]
 mod tests {
+    use call::Arguments;
     use call::Clocks;
     use call::Waiting;
     use delivery::Condition;
@@ -122,6 +123,21 @@ mod tests {
         check_eq(written(&[none], &mut buffer), (19, 0, 2))?;
         check_eq(written(&[], &mut buffer), (18, 0, 2))?;
         check_eq(buffer, [7; 8])
+    }
+
+    fn refused(words: &[Option<u32>]) -> bool {
+        match Arguments::from_words(words) {
+            Ok(_) => false,
+            Err(fault) => told(fault) == (27, 0, 5),
+        }
+    }
+
+    #[test]
+    fn five_numbers_make_a_call() -> Result<(), Fail> {
+        check(!refused(&[Some(1), Some(2), Some(3), Some(4), Some(5)]))?;
+        check(refused(&[]))?;
+        check(refused(&[Some(1), Some(2), Some(3), Some(4), None]))?;
+        check(refused(&[Some(1), Some(2), Some(3), Some(4), Some(5), Some(6)]))
     }
 
     #[test]

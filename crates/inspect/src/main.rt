@@ -2,13 +2,12 @@
 // and checked, written back and compared, and the call is hung up.
 // Arguments: the numbers dialled and answered, then the clocks of device, standard and meter. The block's bytes come
 // on standard input. Whatever comes in, the answer is the steps or a refusal.
-mod arguments;
 mod bytes;
 mod steps;
 
-use arguments::Arguments;
 use bytes::LONGEST;
 use bytes::fill;
+use call::Arguments;
 use fault::record::FaultDisplay;
 use std::alloc::Global;
 use std::env;

@@ -1,5 +1,5 @@
 // The steps of one call, each printed as it happens.
-use crate::arguments::Arguments;
+use call::Arguments;
 use call::Identified;
 use call::Waiting;
 use delivery::Interval;

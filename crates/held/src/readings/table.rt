@@ -45,7 +45,7 @@ impl Readings {
         self.as_slice().len()
     }
 
-    pub fn get(&self, index: usize) -> Option<Reading>
+    pub(crate) fn get(&self, index: usize) -> Option<Reading>
         ensures { λ r. ⌜ r ≡ nth (rows (now (self .entry))) index ⌝ }
     {
         self.as_slice().get(index).copied()

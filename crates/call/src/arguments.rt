@@ -1,7 +1,7 @@
-// The five numbers that a call is made with.
+// The five numbers that a call is made with, read from the words of a command line.
 ghost use mathlib.Core.Path.{_≡_};
-ghost use Rattle.inspect.specs.Arguments.{argumentsOf, numberOf};
-use call::Clocks;
+ghost use Rattle.call.specs.Arguments.{argumentsOf, numberOf};
+use crate::clocks::Clocks;
 use fault::Fault;
 use fault::Refusal;
 
@@ -44,28 +44,5 @@ impl Arguments {
             answered,
             clocks,
         })
-    }
-}
-
-#[cfg(test)]
-mod tests {
-    use super::*;
-    use std::test::*;
-
-    fn refused(words: &[Option<u32>]) -> bool {
-        match Arguments::from_words(words) {
-            Ok(_) => false,
-            Err(fault) => fault.refusal.number() == 27
-                && fault.position == 0
-                && fault.layer.number() == 5,
-        }
-    }
-
-    #[test]
-    fn five_numbers_are_read_and_nothing_else() -> Result<(), Fail> {
-        check(!refused(&[Some(1), Some(2), Some(3), Some(4), Some(5)]))?;
-        check(refused(&[]))?;
-        check(refused(&[Some(1), Some(2), Some(3), Some(4), None]))?;
-        check(refused(&[Some(1), Some(2), Some(3), Some(4), Some(5), Some(6)]))
     }
 }

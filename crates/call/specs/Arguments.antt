@@ -1,4 +1,5 @@
--- The command line of the program: the numbers dialled and answered, and the clocks of device, standard and meter.
+-- A call from the words of a command line: the numbers dialled and answered, and the clocks of device, standard and
+-- meter.
 use mathlib.Core.Bool.{cond}
 use mathlib.Core.List.{List}
 use Prim.Native.Nat.{ℕ}
@@ -12,7 +13,7 @@ use Rattle.std.specs.Options.{okOr}
 use Rattle.fault.specs.declared.record.Fault.{Fault}
 use Rattle.fault.specs.declared.refusal.Refusal.the-variants.{LineUnreadable}
 use Rattle.fault.specs.Faults.{faultAt}
-use Rattle.inspect.specs.declared.arguments.Arguments.{Arguments}
+use Rattle.call.specs.declared.arguments.Arguments.{Arguments}
 
 -- a word that is no number cannot be read
 abbrev pub numberOf : Option ℕ → Result ℕ Fault
