@@ -1,5 +1,8 @@
 // A reading call: waiting for its meter, identified, over. Each stage is a type of its own that is moved into the
 // next, so that a block can be taken only while the call is identified.
+
+#![tactic(auto)]
+
 pub mod arguments;
 pub mod clocks;
 pub mod identified;

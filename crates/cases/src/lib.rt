@@ -1,4 +1,7 @@
 // The worked cases of the rules, proved of the definitions that every contract cites.
+
+#![tactic(auto)]
+
 ghost use Rattle.std.specs.Prelude.{◌≡◌};
 ghost use Rattle.cases.specs.Worked.{Worked};
 

@@ -1,4 +1,7 @@
 // What stays the same for a meter's whole cycle: the cycle itself, the register, and the usage before it.
+
+#![tactic(auto)]
+
 pub mod cycle;
 mod opening;
 pub mod register;

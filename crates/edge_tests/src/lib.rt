@@ -1,5 +1,8 @@
 // Tests of the two edges: the reading call and the delivery block. They have a crate of their own, since a crate with
 // tests is proved twice.
+
+#![tactic(auto)]
+
 #[cfg(test)]
 mod tests {
     use block_writer::write_block;

@@ -1,4 +1,7 @@
 // How a call is turned down: what was refused, where, and which layer found it.
+
+#![tactic(auto)]
+
 pub mod layer;
 pub mod record;
 pub mod refusal;

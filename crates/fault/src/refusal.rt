@@ -1,10 +1,10 @@
 // The 27 ways to be turned down. docs/REFUSALS.md says who gives each, and in which order they are checked.
-ghost use Rattle.std.specs.Prelude.{◌≡◌, Decides};
+ghost use Rattle.std.specs.Prelude.{◌≡◌, ◌==◌, Decides};
 ghost use Rattle.fault.specs.Numbers.{refusal_number};
 ghost use Rattle.fault.specs.Layers.{layer_of};
 ghost use Rattle.std.specs.Cmp.Rules.{comparing};
 ghost use Rattle.std.proofs.Common.{rules};
-ghost use Rattle.std.specs.Cmp as Keys;
+ghost use Rattle.std.specs.Ordering.{on};
 
 use crate::layer::Layer;
 
@@ -61,13 +61,16 @@ impl Refusal {
     }
 }
 
-// Written out, since a derived one promises nothing of an enum this large.
+// Written out, so that it promises that the two are the same, and not only what a derived one computes.
 impl PartialEq for Refusal {
-    ghost equals = { λ x y r. Decides r (x ≡ y) };
+    ghost eq = { on refusal_number ◌==◌ };
 
-    ghost laws = { Keys.partial_equiv_from_equiv (Prim.search (comparing, rules)) };
+    ghost laws = { Prim.search (comparing, rules) };
 
-    fn eq(&self, other: &Refusal) -> bool {
+    fn eq(&self, other: &Refusal) -> bool
+        ensures numbers { result ≡ (refusal_number self.now == refusal_number other.now) }
+        ensures same { Decides result (self.now ≡ other.now) }
+    {
         self.number() == other.number()
     }
 }

@@ -1,5 +1,8 @@
 // The law of runs, over the definitions of a book and its calls. Each function here does nothing but demand a theorem:
 // its contract is the statement, and without the proof the crate is refused.
+
+#![tactic(auto)]
+
 ghost use Rattle.history.specs.Examples.{EachReached, Edited, Leading, Limited, Printed, ReachesAll, ReachesPosted, ReachesSettled, ReachesStatuses, Told, TwoDays, unsound_ways};
 ghost use Rattle.history.specs.Law.{LawOfRuns};
 ghost use Rattle.history.specs.Sanity.{LowestReturned, MarkedExactly, PostedIsClosed, RefusedAsListed, RefusedUnchanged, RulesComeFirst, SettledAgain, SettledOnce};

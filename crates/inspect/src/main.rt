@@ -2,6 +2,9 @@
 // and checked, written back and compared, and the call is hung up.
 // Arguments: the numbers dialled and answered, then the clocks of device, standard and meter. The block's bytes come
 // on standard input. Whatever comes in, the answer is the steps or a refusal.
+
+#![tactic(auto)]
+
 mod bytes;
 mod steps;
 

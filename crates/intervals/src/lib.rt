@@ -1,4 +1,7 @@
 // What is known of a place of the cycle: the pulses counted in it, and what the meter says of the count.
+
+#![tactic(auto)]
+
 pub mod condition;
 pub mod interval;
 

@@ -1,4 +1,7 @@
 // Profiles: what says how an amount is spread over places.
+
+#![tactic(auto)]
+
 pub mod flat;
 mod interval_length;
 pub mod method;

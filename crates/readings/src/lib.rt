@@ -1,4 +1,7 @@
 // The readings of a register within a cycle, and the regions that they cut the cycle into.
+
+#![tactic(auto)]
+
 pub mod reading;
 mod regions;
 pub mod table;

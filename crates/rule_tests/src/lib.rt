@@ -1,4 +1,7 @@
 // Tests of readings and rules. They have a crate of their own, since a crate with tests is proved twice.
+
+#![tactic(auto)]
+
 #[cfg(test)]
 mod readings;
 #[cfg(test)]

@@ -1,4 +1,7 @@
 // What the book has found out about a place, and the sharing of an amount over the open ones.
+
+#![tactic(auto)]
+
 pub mod estimate;
 pub mod state;
 mod weighing;

@@ -1,4 +1,7 @@
 // Validation: what a rule is, and the rules that go by a condition or by the register.
+
+#![tactic(auto)]
+
 pub mod conditions;
 pub mod places;
 pub mod rule;
