@@ -9,8 +9,8 @@ returns g c =
     let ss = c.args.states.now in
     let X = c.args.amount in
     let vs = c.args.values.now in
-    let whole = c.in-ok-whole.whole in
+    let whole = c.in_ok-whole.whole in
     let bears : (0 < whole) ⊎ (X ≡ 0) = ⊎_elim (λ none. inr none.1) (λ some. inl (omega (arith, some))) c.else-whole-eq0.either in
-    let ok = accepted P first ss X vs whole (omega arith) (omega arith) c.in-ok-whole.ensures.weight bears in
-    let after = written-accepted P first ss X vs c.write-shares.new.values ok c.write-shares.ensures in
+    let ok = accepted P first ss X vs whole (omega arith) (omega arith) c.in_ok-whole.ensures.weight bears in
+    let after = written-accepted P first ss X vs c.write_shares.new.values ok c.write_shares.ensures in
     record { outcome = sym ok; written = after.0; exact = after.1 }

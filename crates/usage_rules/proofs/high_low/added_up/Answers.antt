@@ -6,31 +6,31 @@ use Rattle.usage_rules.specs.Usage.{added, added_places, added_pulses}
 use Rattle.validation.proofs.Cycles.{cycle_short}
 use Rattle.usage_rules.proofs.Adding.{added_is, added_yes, added_no}
 use Rattle.usage_rules.proofs.high_low.added_up.Goals as goal
-use Rattle.usage_rules.proofs.high_low.added_up.Goals.{then-is-added, else-is-added}
+use Rattle.usage_rules.proofs.high_low.added_up.Goals.{then-is_added, else-is_added}
 
 pub bounds-spikes-place : goal.bounds-spikes-place
 bounds-spikes-place c = omega (arith, cycle_short c.args.held.now)
 
-pub overflow-add-added-places : goal.overflow-add-added-places
-overflow-add-added-places c = omega (arith, cycle_short c.args.held.now, c.loop-place.invariant.2)
+pub overflow-add-added_places : goal.overflow-add-added_places
+overflow-add-added_places c = omega (arith, cycle_short c.args.held.now, c.loop-place.invariant.2)
 
-pub overflow-add-added-pulses : goal.overflow-add-added-pulses
-overflow-add-added-pulses c = omega (arith, cycle_short c.args.held.now, c.loop-place.invariant.3)
+pub overflow-add-added_pulses : goal.overflow-add-added_pulses
+overflow-add-added_pulses c = omega (arith, cycle_short c.args.held.now, c.loop-place.invariant.3)
 
-added-here : (c : goal.Joined-is-added) → c.is-added.result ≡ added (data_of c.args.held.now) c.loop-place.place
+added-here : (c : goal.Joined-is_added) → c.is_added.result ≡ added (data_of c.args.held.now) c.loop-place.place
 added-here c =
     let l : c.loop-place.place < longest_cycle = omega (arith, cycle_short c.args.held.now) in
-    added_is (data_of c.args.held.now) c.loop-place.place c.ask-all.new.answers c.is-added.result l c.ask-all.ensures.filled c.is-added.ensures
+    added_is (data_of c.args.held.now) c.loop-place.place c.ask_all.new.answers c.is_added.result l c.ask_all.ensures.filled c.is_added.ensures
 
 pub loop-place-preserved : goal.loop-place-preserved
 loop-place-preserved c =
-    elim c.if-is-added.branch [
-      | then-is-added w ↦
+    elim c.if-is_added.branch [
+      | then-is_added w ↦
           let p : (interval_at (data_of c.args.held.now) c.loop-place.place).pulses < 65536 = omega arith in
-          let q : c.if-is-added.added-pulses ≡ c.loop-place.added-pulses + (interval_at (data_of c.args.held.now) c.loop-place.place).pulses = omega (arith, w.added-pulses-is, w.from-added-pulses.ensures) in
-          added_yes (data_of c.args.held.now) c.loop-place.place c.loop-place.added-places c.loop-place.added-pulses c.if-is-added.added-places c.if-is-added.added-pulses (sym w.if-is-added.true ∙ added-here c) w.added-places-is q p c.loop-place.invariant
-      | else-is-added w ↦
-          added_no (data_of c.args.held.now) c.loop-place.place c.loop-place.added-places c.loop-place.added-pulses c.if-is-added.added-places c.if-is-added.added-pulses (sym w.if-is-added.false ∙ added-here c) w.added-places-is w.added-pulses-is c.loop-place.invariant
+          let q : c.if-is_added.added_pulses ≡ c.loop-place.added_pulses + (interval_at (data_of c.args.held.now) c.loop-place.place).pulses = omega (arith, w.added_pulses-is, w.from-added_pulses.ensures) in
+          added_yes (data_of c.args.held.now) c.loop-place.place c.loop-place.added_places c.loop-place.added_pulses c.if-is_added.added_places c.if-is_added.added_pulses (sym w.if-is_added.true ∙ added-here c) w.added_places-is q p c.loop-place.invariant
+      | else-is_added w ↦
+          added_no (data_of c.args.held.now) c.loop-place.place c.loop-place.added_places c.loop-place.added_pulses c.if-is_added.added_places c.if-is_added.added_pulses (sym w.if-is_added.false ∙ added-here c) w.added_places-is w.added_pulses-is c.loop-place.invariant
     ]
 
 pub returns : goal.returns

@@ -11,13 +11,13 @@ step xs i b h s =
     let e : all_sound (drop i xs) ≡ (sound (get_or xs i no_interval).condition && all_sound (drop (i + 1) xs)) = at_drop_more all_sound xs i no_interval h in
     rw s at e
 
-pub returns-then-not-is-sound : goal.returns-then-not-is-sound
-returns-then-not-is-sound c =
-    sym (step _ _ false c.loop-interval-test.true (sym c.if-not-is-sound.ensures)) ∙ c.loop-interval.invariant
+pub returns-then-not-is_sound : goal.returns-then-not-is_sound
+returns-then-not-is_sound c =
+    sym (step _ _ false c.loop-interval-test.true (sym c.if-not-is_sound.ensures)) ∙ c.loop-interval.invariant
 
 pub loop-interval-preserved : goal.loop-interval-preserved
 loop-interval-preserved c =
-    sym (step _ _ true c.loop-interval-test.true (sym c.if-not-is-sound.ensures)) ∙ c.loop-interval.invariant
+    sym (step _ _ true c.loop-interval-test.true (sym c.if-not-is_sound.ensures)) ∙ c.loop-interval.invariant
 
 pub returns : goal.returns
 returns c = sym (at_drop_all all_sound _ _ c.loop-interval-test.false) ∙ c.loop-interval.invariant

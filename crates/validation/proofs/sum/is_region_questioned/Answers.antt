@@ -3,6 +3,6 @@ use Rattle.std.proofs.lemmas.List.{length-take, length-drop}
 use Rattle.validation.proofs.Cycles.{cycle_short}
 use Rattle.validation.proofs.sum.is_region_questioned.Goals as goal
 
-pub total-pulses-requires : goal.total-pulses-requires
-total-pulses-requires c =
-    omega (arith, cycle_short c.args.held.now, simp (length-take, length-drop) at (ap length c.region-intervals-intervals.ensures))
+pub total_pulses-requires : goal.total_pulses-requires
+total_pulses-requires c =
+    omega (arith, cycle_short c.args.held.now, simp (length-take, length-drop) at (ap length c.region_intervals-intervals.ensures))

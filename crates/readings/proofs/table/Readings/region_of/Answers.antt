@@ -7,7 +7,7 @@ use Rattle.readings.proofs.table.Readings.region_of.Goals as goal
 
 pub returns : goal.returns
 returns c =
-    let e : c.standing-by.result ≡ region_at (rows c.args.self.now) c.args.place = cc in
+    let e : c.standing_by.result ≡ region_at (rows c.args.self.now) c.args.place = cc in
     record {
       count = e;
       only = λ n h. subst (λ k. OnlyRegion n (rows c.args.self.now) c.args.place k) (sym e) (region_covers n (rows c.args.self.now) c.args.place c.args.self.now.rising h);

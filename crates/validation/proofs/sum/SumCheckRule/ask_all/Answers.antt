@@ -7,25 +7,25 @@ use Rattle.validation.specs.Sums.{region_questioned}
 use Rattle.validation.proofs.Alike.{AtHand, same_region, begun, still_at_hand, answer_at_hand, next_reached}
 use Rattle.validation.proofs.Filled.{asked_inside, asked_past, filled_more, filled_all}
 use Rattle.validation.proofs.sum.SumCheckRule.ask_all.Goals as goal
-use Rattle.validation.proofs.sum.SumCheckRule.ask_all.Goals.{then-place-end, else-place-end, then-has-place, else-has-place}
+use Rattle.validation.proofs.sum.SumCheckRule.ask_all.Goals.{then-place-end, else-place-end, then-has_place, else-has_place}
 
-at-hand : (c : goal.Joined-has-place) → AtHand (data_of c.args.held.now) c.loop-place.place c.if-place-end.end c.if-place-end.questioned
+at-hand : (c : goal.Joined-has_place) → AtHand (data_of c.args.held.now) c.loop-place.place c.if-place-end.end c.if-place-end.questioned
 at-hand c =
     let h : Held = c.args.held.now in
     elim c.if-place-end.branch [
       | then-place-end w ↦
-          let k : ℕ = w.region-of-region.result in
-          let e : w.region-end-end.result ≡ region_end (places (data_of h)) (data_of h).readings k = w.region-end-end.ensures.place in
-          let q : w.is-region-questioned-questioned.result ≡ region_questioned (data_of h) k = w.is-region-questioned-questioned.ensures in
-          rw (w.end-is, w.questioned-is) (begun (data_of h) c.loop-place.place k _ _ h.readings.now.rising h.within w.region-of-region.ensures.count e q)
+          let k : ℕ = w.region_of-region.result in
+          let e : w.region_end-end.result ≡ region_end (places (data_of h)) (data_of h).readings k = w.region_end-end.ensures.place in
+          let q : w.is_region_questioned-questioned.result ≡ region_questioned (data_of h) k = w.is_region_questioned-questioned.ensures in
+          rw (w.end-is, w.questioned-is) (begun (data_of h) c.loop-place.place k _ _ h.readings.now.rising h.within w.region_of-region.ensures.count e q)
       | else-place-end w ↦ rw (w.end-is, w.questioned-is) (still_at_hand (data_of h) c.loop-place.place c.loop-place.end c.loop-place.questioned w.if-place-end.false c.loop-place.invariant.1)
     ]
 
-answered : (c : goal.Joined-has-place) → c.if-has-place.answers ≡ (in_cycle (data_of c.args.held.now) c.loop-place.place && c.if-place-end.questioned)
+answered : (c : goal.Joined-has_place) → c.if-has_place.answers ≡ (in_cycle (data_of c.args.held.now) c.loop-place.place && c.if-place-end.questioned)
 answered c =
-    elim c.if-has-place.branch [
-      | then-has-place w ↦ asked_inside _ _ _ _ w.if-has-place.true c.has-place.ensures w.answers-is
-      | else-has-place w ↦ asked_past _ _ _ _ w.if-has-place.false c.has-place.ensures w.answers-is
+    elim c.if-has_place.branch [
+      | then-has_place w ↦ asked_inside _ _ _ _ w.if-has_place.true c.has_place.ensures w.answers-is
+      | else-has_place w ↦ asked_past _ _ _ _ w.if-has_place.false c.has_place.ensures w.answers-is
     ]
 
 pub loop-place-preserved : goal.loop-place-preserved
