@@ -2,7 +2,7 @@
 use Rattle.std.proofs.Common.{◌≡◌, ℕ, zero, suc, ◌+◌, ◌-◌, ◌<◌, ◌≤◌, Bool, true, false, cond, ◌||◌, ◌⊎◌, List, [], ◌∷◌, ◌++◌, length, get_or, take, drop, Some, None, sum, Option, sym, refl, ap, ◌∙◌, inl, inr, ⊎_elim, add-zero, arith, length-append, length-drop}
 use Rattle.std.proofs.lemmas.List.FromFn.{get_or-map-range_with_len, length-map-range_with_len}
 use Rattle.std.proofs.lemmas.List.{get_or_append_left, get_or-append_right, get_or-take, get_or-drop, length-take-le}
-use Rattle.std.proofs.lemmas.List.Sums.{sum_by_cons}
+use Rattle.std.proofs.lemmas.List.Sums.{sum_by-cons}
 use Rattle.std.proofs.lemmas.Bool.{or_parts, or_from, cases_lt, cases_eq, and_from, le-leb, lt-ltb}
 use Rattle.history.specs.Stretches.{over, in_stretch, overwritten, rewritten, first_where, any_where, total}
 
@@ -97,7 +97,7 @@ total-sum f a (suc len) (x ∷ xs) long h =
     let here : x ≡ f (a + 0) = h 0 (omega arith) in
     let at_a : f (a + 0) ≡ f a = ap f (add-zero a) in
     let more = total-sum f (a + 1) len xs (omega arith) (λ j low. h (suc j) (omega arith) ∙ (let e : a + suc j ≡ a + 1 + j = omega arith in ap f e)) in
-    sum_by_cons (λ y. y) x xs ∙ (let t : x + sum xs ≡ f a + total f (a + 1) len = omega arith in t)
+    sum_by-cons (λ y. y) x xs ∙ (let t : x + sum xs ≡ f a + total f (a + 1) len = omega arith in t)
 
 not_first : (b : Bool) (a : ℕ) (rest : Option ℕ) → cond b (Some a) rest ≡ None → (b ≡ false) × (rest ≡ None)
 not_first true a rest e = let z : ◌≡◌ {A = ℕ} 0 1 = cc in absurd (omega arith)

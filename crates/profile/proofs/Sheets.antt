@@ -3,7 +3,7 @@ use Rattle.std.proofs.Common.{◌≡◌, ℕ, zero, suc, ◌+◌, ◌-◌, ◌*�
 use native.Mathlib.Nat.{sub-zero}
 use Rattle.std.specs.List.{range_with_len}
 use Rattle.std.proofs.lemmas.List.{drop_more, drop_all}
-use Rattle.std.proofs.lemmas.List.Sums.{sum_by_cons}
+use Rattle.std.proofs.lemmas.List.Sums.{sum_by-cons}
 use Rattle.std.proofs.lemmas.Bool.{le-leb, lt-leb}
 use Rattle.profile.specs.PastDays.{counts_kept}
 
@@ -56,7 +56,7 @@ pub sofar_yes : (p : ℕ → Bool) (f : ℕ → ℕ) (n day total found count : 
 sofar_yes p f n day total found count s h e k c w =
     let less : found < 3 = omega (arith, s.few)
     in let l = left_yes p n day found h e less
-    in let sums-here = ap (λ xs. sum (map f xs)) l ∙ sum_by_cons (λ x. x) (f day) (map f (left p n (day + 1) (found + 1)))
+    in let sums-here = ap (λ xs. sum (map f xs)) l ∙ sum_by-cons (λ x. x) (f day) (map f (left p n (day + 1) (found + 1)))
     in let finds-here = ap (λ xs. length (map f xs)) l
     in record { sums = omega (arith, sums-here, s.sums); finds = omega (arith, finds-here, s.finds); few = omega arith; small = omega (arith, s.small) }
 

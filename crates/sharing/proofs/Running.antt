@@ -3,7 +3,7 @@ use Rattle.std.proofs.Common.{◌≡◌, ℕ, zero, suc, ◌+◌, ◌-◌, ◌*�
 use native.Mathlib.Nat.{div-zero, zero-div, sub_self, lt-div-mul-add, div-le_of_le-mul}
 use Rattle.std.specs.List.{between}
 use Rattle.std.proofs.lemmas.Nat.{le-div}
-use Rattle.std.proofs.lemmas.List.Sums.{sum_by_cons, sum_by_more}
+use Rattle.std.proofs.lemmas.List.Sums.{sum_by-cons, sum_by_more}
 use Rattle.sharing.specs.Shares.{running, shares}
 use Rattle.sharing.specs.Laws.{Near, Shared}
 
@@ -50,10 +50,10 @@ sum-shares X Y S [] = rw (add-zero, sub_self)
 sum-shares X Y S (w ∷ ws) =
     let here = running X Y (S + w) in
     let later = running X Y (S + w + sum ws) in
-    sum_by_cons (λ x. x) (here - running X Y S) (shares X Y (S + w) ws)
+    sum_by-cons (λ x. x) (here - running X Y S) (shares X Y (S + w) ws)
     ∙ ap (λ n. (here - running X Y S) + n) (sum-shares X Y (S + w) ws)
     ∙ between_less (running X Y S) here later (running_mono X Y S (S + w) (omega arith)) (running_mono X Y (S + w) (S + w + sum ws) (omega arith))
-    ∙ ap (λ n. running X Y n - running X Y S) (add_assoc S w (sum ws) ∙ ap (λ n. S + n) (sym (sum_by_cons (λ x. x) w ws)))
+    ∙ ap (λ n. running X Y n - running X Y S) (add_assoc S w (sum ws) ∙ ap (λ n. S + n) (sym (sum_by-cons (λ x. x) w ws)))
 
 pub take-shares : (X Y S n : ℕ) (ws : List ℕ) → take n (shares X Y S ws) ≡ shares X Y S (take n ws)
 take-shares X Y S zero ws = refl
@@ -65,7 +65,7 @@ drop-shares X Y S zero ws = rw add-zero
 drop-shares X Y S (suc n) [] = refl
 drop-shares X Y S (suc n) (w ∷ ws) =
     drop-shares X Y (S + w) n ws
-    ∙ ap (λ m. shares X Y m (drop n ws)) (add_assoc S w (sum (take n ws)) ∙ ap (λ m. S + m) (sym (sum_by_cons (λ x. x) w (take n ws))))
+    ∙ ap (λ m. shares X Y m (drop n ws)) (add_assoc S w (sum (take n ws)) ∙ ap (λ m. S + m) (sym (sum_by-cons (λ x. x) w (take n ws))))
 
 -- the share at a place
 pub get_or-shares : (X Y S : ℕ) (ws : List ℕ) (j : ℕ) → j < length ws → get_or (shares X Y S ws) j 0 ≡ running X Y (S + sum (take (j + 1) ws)) - running X Y (S + sum (take j ws))
@@ -75,7 +75,7 @@ get_or-shares X Y S ws j h = rw (add-one) (at S ws j h)
     at S [] j h = absurd (omega arith)
     at S (w ∷ ws) zero h = rw (zero-add, add-zero)
     at S (w ∷ ws) (suc j) h =
-        let step : (n : ℕ) → S + w + sum (take n ws) ≡ S + sum (w ∷ take n ws) = λ n. add_assoc S w (sum (take n ws)) ∙ ap (λ m. S + m) (sym (sum_by_cons (λ x. x) w (take n ws))) in
+        let step : (n : ℕ) → S + w + sum (take n ws) ≡ S + sum (w ∷ take n ws) = λ n. add_assoc S w (sum (take n ws)) ∙ ap (λ m. S + m) (sym (sum_by-cons (λ x. x) w (take n ws))) in
         at (S + w) ws j (omega arith)
         ∙ ap (λ n. running X Y n - running X Y (S + w + sum (take j ws))) (step (suc j))
         ∙ ap (λ n. running X Y (S + sum (w ∷ take (suc j) ws)) - running X Y n) (step j)

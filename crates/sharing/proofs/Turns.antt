@@ -1,7 +1,7 @@
 -- One turn of the loops over a part's places: what is left gives the whole. Assumes nothing.
 use Rattle.std.proofs.Common.{◌≡◌, ℕ, ◌+◌, ◌-◌, ◌<◌, ◌≤◌, Bool, true, false, cond, List, [], ◌∷◌, ◌++◌, length, get_or, take, drop, set, Some, None, Ok, Err, sum, Option, unwrap_or, sym, refl, ap, ◌∙◌, add_assoc, arith}
 use Rattle.std.proofs.lemmas.List.{append_assoc, at_drop_more, at_drop_all, drop_all, drop_more, drop-set-lt, take-append-drop, take_more, take_more_set}
-use Rattle.std.proofs.lemmas.List.Sums.{sum_by_cons}
+use Rattle.std.proofs.lemmas.List.Sums.{sum_by-cons}
 use Rattle.fault.specs.declared.record.Fault.{Fault}
 use Rattle.fault.specs.declared.refusal.Refusal.TheVariants.{PlaceWithoutWeight}
 use Rattle.fault.specs.Faults.{fault_at}
@@ -46,7 +46,7 @@ module _ (P : ℕ → Option (ℕ × ℕ)) (first : ℕ) (ss : List State) (i : 
       ∙ ap (λ n. weight_here ∷ weights P n (drop (i + 1) ss)) (add_assoc first i 1)
 
   pub sum_more : i < length ss → sum (weights P (first + i) (drop i ss)) ≡ weight_here + sum (weights P (first + (i + 1)) (drop (i + 1) ss))
-  sum_more h = ap sum (weights_more h) ∙ sum_by_cons (λ x. x) weight_here (weights P (first + (i + 1)) (drop (i + 1) ss))
+  sum_more h = ap sum (weights_more h) ∙ sum_by-cons (λ x. x) weight_here (weights P (first + (i + 1)) (drop (i + 1) ss))
 
   pub sum_all : length ss ≤ i → sum (weights P (first + i) (drop i ss)) ≡ 0
   sum_all h = at_drop_all (λ rest. sum (weights P (first + i) rest)) ss i h

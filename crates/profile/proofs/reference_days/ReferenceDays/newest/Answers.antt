@@ -8,8 +8,8 @@ use Rattle.profile.proofs.reference_days.ReferenceDays.newest.Goals.{then-is_sim
 pub loop-day-init : goal.loop-day-init
 loop-day-init c = sofar_none _ _ _
 
-pub overflow-add-total : goal.overflow-add-total
-overflow-add-total c = omega (arith, c.loop-day.invariant.small, c.loop-day.invariant.few)
+pub overflow_add-total : goal.overflow_add-total
+overflow_add-total c = omega (arith, c.loop-day.invariant.small, c.loop-day.invariant.few)
 
 pub loop-day-preserved : goal.loop-day-preserved
 loop-day-preserved c =

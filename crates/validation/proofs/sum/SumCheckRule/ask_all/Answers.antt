@@ -5,12 +5,12 @@ use Rattle.held.specs.declared.view.Held.{Held}
 use Rattle.readings.specs.Regions.{region_end}
 use Rattle.validation.specs.Sums.{region_questioned}
 use Rattle.validation.proofs.Alike.{AtHand, same_region, begun, still_at_hand, answer_at_hand, next_reached}
-use Rattle.validation.proofs.Filled.{asked_inside, asked_past, filled_more, filled_all}
+use Rattle.validation.proofs.Filled.{filled_more, filled_all}
 use Rattle.validation.proofs.sum.SumCheckRule.ask_all.Goals as goal
-use Rattle.validation.proofs.sum.SumCheckRule.ask_all.Goals.{then-place-end, else-place-end, then-has_place, else-has_place}
+use Rattle.validation.proofs.sum.SumCheckRule.ask_all.Goals.{then-place-end, else-place-end}
 
-at-hand : (c : goal.Joined-has_place) → AtHand (data_of c.args.held.now) c.loop-place.place c.if-place-end.end c.if-place-end.questioned
-at-hand c =
+at_hand : (c : goal.After-in_cycle) → AtHand (data_of c.args.held.now) c.loop-place.place c.if-place-end.end c.if-place-end.questioned
+at_hand c =
     let h : Held = c.args.held.now in
     elim c.if-place-end.branch [
       | then-place-end w ↦
@@ -21,17 +21,10 @@ at-hand c =
       | else-place-end w ↦ rw (w.end-is, w.questioned-is) (still_at_hand (data_of h) c.loop-place.place c.loop-place.end c.loop-place.questioned w.if-place-end.false c.loop-place.invariant.1)
     ]
 
-answered : (c : goal.Joined-has_place) → c.if-has_place.answers ≡ (in_cycle (data_of c.args.held.now) c.loop-place.place && c.if-place-end.questioned)
-answered c =
-    elim c.if-has_place.branch [
-      | then-has_place w ↦ asked_inside _ _ _ _ w.if-has_place.true c.has_place.ensures w.answers-is
-      | else-has_place w ↦ asked_past _ _ _ _ w.if-has_place.false c.has_place.ensures w.answers-is
-    ]
-
 pub loop-place-preserved : goal.loop-place-preserved
 loop-place-preserved c =
     let i : c.loop-place.place < length c.loop-place.answers = omega arith in
-    (filled_more _ _ _ _ i (answered c ∙ answer_at_hand (data_of c.args.held.now) _ _ _ (at-hand c)) c.loop-place.invariant.0, next_reached (data_of c.args.held.now) _ _ _ (at-hand c))
+    (filled_more _ _ _ _ i (c.in_cycle.ensures ∙ answer_at_hand (data_of c.args.held.now) _ _ _ (at_hand c)) c.loop-place.invariant.0, next_reached (data_of c.args.held.now) _ _ _ (at_hand c))
 
 pub returns : goal.returns
 returns c =
