@@ -4,13 +4,6 @@ use Rattle.std.proofs.lemmas.List.Edits.{fill_by_more}
 use Rattle.std.proofs.lemmas.List.FromFn.{fill_by_all}
 use Rattle.validation.specs.Places.{each}
 
--- an answer that is given inside the cycle only
-pub asked_inside : (asked inside s r : Bool) → asked ≡ true → asked ≡ inside → r ≡ s → r ≡ (inside && s)
-asked_inside asked inside s r t e f = f ∙ ap (λ x. x && s) (sym t ∙ e)
-
-pub asked_past : (asked inside s r : Bool) → asked ≡ false → asked ≡ inside → r ≡ asked → r ≡ (inside && s)
-asked_past asked inside s r t e f = f ∙ t ∙ ap (λ x. x && s) (sym t ∙ e)
-
 -- the first i answers stand
 abbrev pub Filled : (ℕ → Bool) → List Bool → ℕ → Type 0
 Filled f xs i = (k : ℕ) → k < i → get_or xs k false ≡ f k

@@ -13,8 +13,8 @@ running_share-due-requires g c =
     let is = weight_or_none P c.args.first c.args.states.now c.loop-i.i c.weight_at.result c.unwrap_or-weight.result c.weight_at.ensures.weight c.unwrap_or-weight.ensures in
     record { within = omega arith; bound = c.requires.bound }
 
-pub overflow-sub-values : goal.overflow-sub-values
-overflow-sub-values g c = omega (arith, running_mono c.args.amount c.args.whole c.loop-i.weight (c.loop-i.weight + c.unwrap_or-weight.result) (omega arith), c.loop-i.invariant.1, c.running_share-due.ensures)
+pub overflow_sub-values : goal.overflow_sub-values
+overflow_sub-values g c = omega (arith, running_mono c.args.amount c.args.whole c.loop-i.weight (c.loop-i.weight + c.unwrap_or-weight.result) (omega arith), c.loop-i.invariant.1, c.running_share-due.ensures)
 
 pub loop-i-preserved : goal.loop-i-preserved
 loop-i-preserved g c =
@@ -33,12 +33,12 @@ loop-i-preserved g c =
       | then-is_open t ↦ (
         omega arith,
         t.shared-is ∙ c.running_share-due.ensures,
-        ap (λ us. take (i + 1) us ++ placed (drop (i + 1) ss) es (drop (i + 1) us)) t.values-is ∙ sym (placed_writes ss es vs i (due - shared) c.loop-i-test.true (omega arith) (sym c.is_open.ensures ∙ t.if-is-open.true)) ∙ sym turn ∙ c.loop-i.invariant.2,
+        ap (λ us. take (i + 1) us ++ placed (drop (i + 1) ss) es (drop (i + 1) us)) t.values-is ∙ sym (placed_writes ss es vs i (due - shared) c.loop-i-test.true (omega arith) (sym c.is_open.ensures ∙ t.if-is_open.true)) ∙ sym turn ∙ c.loop-i.invariant.2,
       )
       | else-is_open t ↦ (
         omega arith,
         t.shared-is ∙ c.running_share-due.ensures,
-        ap (λ us. take (i + 1) us ++ placed (drop (i + 1) ss) es (drop (i + 1) us)) t.values-is ∙ sym (placed_leaves ss es vs i (due - shared) c.loop-i-test.true (omega arith) (sym c.is_open.ensures ∙ t.if-is-open.false)) ∙ sym turn ∙ c.loop-i.invariant.2,
+        ap (λ us. take (i + 1) us ++ placed (drop (i + 1) ss) es (drop (i + 1) us)) t.values-is ∙ sym (placed_leaves ss es vs i (due - shared) c.loop-i-test.true (omega arith) (sym c.is_open.ensures ∙ t.if-is_open.false)) ∙ sym turn ∙ c.loop-i.invariant.2,
       )
     ]
 

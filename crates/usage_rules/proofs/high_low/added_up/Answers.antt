@@ -11,11 +11,11 @@ use Rattle.usage_rules.proofs.high_low.added_up.Goals.{then-is_added, else-is_ad
 pub bounds-spikes-place : goal.bounds-spikes-place
 bounds-spikes-place c = omega (arith, cycle_short c.args.held.now)
 
-pub overflow-add-added_places : goal.overflow-add-added_places
-overflow-add-added_places c = omega (arith, cycle_short c.args.held.now, c.loop-place.invariant.2)
+pub overflow_add-added_places : goal.overflow_add-added_places
+overflow_add-added_places c = omega (arith, cycle_short c.args.held.now, c.loop-place.invariant.2)
 
-pub overflow-add-added_pulses : goal.overflow-add-added_pulses
-overflow-add-added_pulses c = omega (arith, cycle_short c.args.held.now, c.loop-place.invariant.3)
+pub overflow_add-added_pulses : goal.overflow_add-added_pulses
+overflow_add-added_pulses c = omega (arith, cycle_short c.args.held.now, c.loop-place.invariant.3)
 
 added-here : (c : goal.Joined-is_added) → c.is_added.result ≡ added (data_of c.args.held.now) c.loop-place.place
 added-here c =
