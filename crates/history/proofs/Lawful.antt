@@ -55,15 +55,15 @@ length_by o rs k = region_end (places_of o) rs k - region_start rs k
 abbrev total_by : Opening → List Reading → (ℕ → ℕ) → ℕ → ℕ
 total_by o rs f k = total f (region_start rs k) (length_by o rs k)
 
-abbrev amount_by : Opening → List Reading → (ℕ → Interval) → Model → ℕ → ℕ
-amount_by o rs held m k = advance_by o rs k - total_by o rs (λ i. cond (estimated_in m i) 0 (held i).pulses) k
-
 -- the advance of a region and the pulses by which its values may differ from that, of an opening and readings
 abbrev advance_by : Opening → List Reading → ℕ → ℕ
 advance_by o rs k = advance o.dials rs k * o.pulses_per_unit
 
 abbrev allowed_by : Opening → List Reading → ℕ → ℕ
 allowed_by o rs k = allowed_units rs k * o.pulses_per_unit
+
+abbrev amount_by : Opening → List Reading → (ℕ → Interval) → Model → ℕ → ℕ
+amount_by o rs held m k = advance_by o rs k - total_by o rs (λ i. cond (estimated_in m i) 0 (held i).pulses) k
 
 abbrev slack_by : Opening → List Reading → Model → ℕ → ℕ
 slack_by o rs m k = cond (any_where (estimated_in m) (region_start rs k) (length_by o rs k)) 0 (allowed_by o rs k)
