@@ -1,5 +1,4 @@
 -- The two refusals that come before all others of a call.
-use Rattle.std.proofs.Common.{true, false}
 use Rattle.history.specs.Calls.{delivery, reading, rule, verification, settlement, filling, withdrawal, posting}
 use Rattle.history.specs.Sanity.{PostedIsClosed, RulesComeFirst}
 use Rattle.std.proofs.lemmas.Bool.{false≢true}

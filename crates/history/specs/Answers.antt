@@ -1,5 +1,5 @@
 -- What a call answers: the first refusal that applies, in the order listed, or that it is accepted.
-use Rattle.std.specs.Prelude.{ℕ, suc, ◌+◌, ◌-◌, ◌^◌, Bool, cond, not, ◌&&◌, ◌||◌, List, [], ◌∷◌, length, ℤ, pos, negsuc, Some, None, sum, Option, ◌==◌, nat_le, nat_lt}
+use Rattle.std.specs.Prelude.{ℕ, suc, ◌+◌, ◌^◌, Bool, cond, not, ◌&&◌, ◌||◌, List, [], ◌∷◌, length, ℤ, pos, negsuc, Some, None, sum, Option, ◌==◌, nat_le, nat_lt}
 use Rattle.delivery.specs.Blocks.{shaped, place_count, block_parts, first_above}
 use Rattle.fault.specs.declared.record.Fault.{Fault}
 use Rattle.fault.specs.declared.refusal.Refusal.{Refusal}

@@ -1,5 +1,5 @@
 // Sharing on examples.
-ghost use Rattle.std.specs.Prelude.{if_then_else_, Some, None, nat_eq};
+ghost use Rattle.std.specs.Prelude.{if◌then◌else◌, Some, None, nat_eq};
 
 use fault::{Fault, Refusal};
 use profile::{Flat, Profile};

@@ -1,4 +1,4 @@
-use Rattle.std.proofs.Common.{◌≡◌, ◌<◌, ◌&&◌, length, ap, ◌∙◌, arith}
+use Rattle.std.proofs.Common.{◌<◌, ◌&&◌, length, ap, ◌∙◌, arith}
 use Rattle.held.specs.HeldData.{places, in_cycle}
 use Rattle.held.specs.DataOf.{data_of}
 use Rattle.validation.proofs.Alike.{same_answer}

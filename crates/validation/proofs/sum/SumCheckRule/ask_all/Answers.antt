@@ -1,6 +1,6 @@
-use Rattle.std.proofs.Common.{◌≡◌, ℕ, ◌<◌, ◌&&◌, length, ◌∙◌, arith}
+use Rattle.std.proofs.Common.{◌≡◌, ℕ, ◌<◌, length, ◌∙◌, arith}
 use Rattle.held.specs.DataOf.{data_of}
-use Rattle.held.specs.HeldData.{places, in_cycle}
+use Rattle.held.specs.HeldData.{places}
 use Rattle.held.specs.declared.view.Held.{Held}
 use Rattle.readings.specs.Regions.{region_end}
 use Rattle.validation.specs.Sums.{region_questioned}
