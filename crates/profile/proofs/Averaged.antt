@@ -2,7 +2,7 @@
 use Rattle.std.proofs.Common.{◌≡◌, ℕ, zero, suc, ◌/◌, ◌≤◌, true, cond, List, [], ◌∷◌, map, length, get_or, Some, None, sum, refl, ap, arith}
 use native.Mathlib.Nat.{div-le_of_le-mul}
 use Rattle.std.specs.Option.{option_map}
-use Rattle.std.specs.List.{AllByRecursion as All}
+use Rattle.std.specs.List.{AllByRecursion}
 use Rattle.std.proofs.ByRecursion.{sum_by_le}
 use Rattle.std.proofs.lemmas.Bool.{and_parts, leb-true, le-leb}
 use Rattle.profile.specs.declared.method.Method.{Method}
@@ -16,7 +16,7 @@ use Rattle.profile.specs.Laws.{WeekdaysRunBack, WeighsByAverage}
 pub weekdays_run_back : WeekdaysRunBack
 weekdays_run_back first j = omega arith
 
-weighed_all : (m : Method) (xs : List ℕ) → All (λ x. x ≤ 65535) xs → weighed m (average xs) ≡ option_map (λ w. (w, method_code m)) (average xs)
+weighed_all : (m : Method) (xs : List ℕ) → AllByRecursion (λ x. x ≤ 65535) xs → weighed m (average xs) ≡ option_map (λ w. (w, method_code m)) (average xs)
 weighed_all m [] h = refl
 weighed_all m (x ∷ xs) h = ap (λ b. cond b (Some (sum (x ∷ xs) / length (x ∷ xs), method_code m)) None) (le-leb _ 65535 (div-le_of_le-mul (length (x ∷ xs)) (sum_by_le (λ y. y) 65535 (x ∷ xs) h)))
 
@@ -25,7 +25,7 @@ kept_at [] i e = omega arith
 kept_at (x ∷ xs) zero e = leb-true _ _ (and_parts _ _ e).0
 kept_at (x ∷ xs) (suc i) e = kept_at xs i (and_parts _ _ e).1
 
-all_of : (P : ℕ → Type 0) (f : ℕ → ℕ) → ((y : ℕ) → P (f y)) → (ys : List ℕ) → All P (map f ys)
+all_of : (P : ℕ → Type 0) (f : ℕ → ℕ) → ((y : ℕ) → P (f y)) → (ys : List ℕ) → AllByRecursion P (map f ys)
 all_of P f h [] = tt
 all_of P f h (y ∷ ys) = (h y, all_of P f h ys)
 

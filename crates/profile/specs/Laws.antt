@@ -1,7 +1,7 @@
 -- What holds of the weights by reference days.
 use Rattle.std.specs.Prelude.{◌≡◌, ℕ, ◌+◌, ◌/◌, ◌%◌, ◌≤◌, ◌&&◌, List, IfSome, filter, Option, ◌==◌}
 use Rattle.std.specs.Option.{option_map}
-use Rattle.std.specs.List.{range_with_len, AllByRecursion as All}
+use Rattle.std.specs.List.{range_with_len, AllByRecursion}
 use Rattle.profile.specs.declared.method.Method.TheVariants.{ReferenceDays}
 use Rattle.profile.specs.Codes.{method_code}
 use Rattle.profile.specs.PastDays.{PastDays}
@@ -18,7 +18,7 @@ WholeWeeksBack d place = similar_days d (weekday_at d place) ≡ filter (λ j. u
 
 -- at least the smallest of the counts, and at most the largest
 abbrev pub Between : List ℕ → ℕ → Type 0
-Between xs w = ((b : ℕ) → All (λ x. b ≤ x) xs → b ≤ w) × ((b : ℕ) → All (λ x. x ≤ b) xs → w ≤ b)
+Between xs w = ((b : ℕ) → AllByRecursion (λ x. b ≤ x) xs → b ≤ w) × ((b : ℕ) → AllByRecursion (λ x. x ≤ b) xs → w ≤ b)
 
 abbrev pub BetweenCounts : PastDays → ℕ → Option (ℕ × ℕ) → Type 0
 BetweenCounts d place answer = IfSome answer (λ a. Between (reference_counts d place) a.0)

@@ -3,8 +3,8 @@
 #![tactic(auto)]
 
 #[cfg(test)]
-mod readings;
-#[cfg(test)]
 mod rules;
 #[cfg(test)]
 mod spikes;
+#[cfg(test)]
+mod tables;
