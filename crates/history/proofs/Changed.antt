@@ -55,12 +55,12 @@ open_doubtful Verified sound marks e g = absurd (false≢true e)
 open_doubtful Open sound marks e g = g
 open_doubtful Estimated sound marks e g = g
 
-pub estimated-doubtful : (st : Status) (sound : Bool) (marks : ℕ) → is_estimated st ≡ true → Grounds st sound marks → Doubtful sound marks
-estimated-doubtful Raw sound marks e g = absurd (false≢true e)
-estimated-doubtful Measured sound marks e g = absurd (false≢true e)
-estimated-doubtful Verified sound marks e g = absurd (false≢true e)
-estimated-doubtful Open sound marks e g = g
-estimated-doubtful Estimated sound marks e g = g
+pub estimated_doubtful : (st : Status) (sound : Bool) (marks : ℕ) → is_estimated st ≡ true → Grounds st sound marks → Doubtful sound marks
+estimated_doubtful Raw sound marks e g = absurd (false≢true e)
+estimated_doubtful Measured sound marks e g = absurd (false≢true e)
+estimated_doubtful Verified sound marks e g = absurd (false≢true e)
+estimated_doubtful Open sound marks e g = g
+estimated_doubtful Estimated sound marks e g = g
 
 -- an inner region is one of the regions
 pub inner_below : (rs : List Reading) (k : ℕ) → inner rs k ≡ true → k < region_count rs
@@ -108,8 +108,8 @@ module _ (w : Words) (m : Model) (kept : Kept w m) where
       same_total : (f : State → ℕ → ℕ) → total (λ i. f (get_or ss i raw_state) i) (start_of m k) (length_of m k) ≡ total (λ i. f (state_at m i) i) (start_of m k) (length_of m k)
       same_total f = total_ext (λ i. f (get_or ss i raw_state) i) (λ i. f (state_at m i) i) (start_of m k) (length_of m k) (λ i low high. ap (λ s. f s i) (same.states i low (last high)))
 
-      pub same-settled : (u : ℕ → Option Weighing) → u k ≡ w.used k → SettledIn w m k → SettledIn (with_used w u) (changed_to ss vs m) k
-      same-settled u eu settled = record {
+      pub same_settled : (u : ℕ → Option Weighing) → u k ≡ w.used k → SettledIn w m k → SettledIn (with_used w u) (changed_to ss vs m) k
+      same_settled u eu settled = record {
         adds = total_ext (λ i. get_or vs i 0) (entry_at m) (start_of m k) (length_of m k) (λ i low high. same.values i low (last high)) ∙ settled.adds;
         profile = settled.profile;
         last = eu ∙ settled.last;
@@ -156,9 +156,9 @@ module _ (w : Words) (m : Model) (kept : Kept w m) where
         (λ e. subst (λ n. some_in (changed_to ss vs m) n open_status ≡ false) (sym e) (whole-k (subst (λ n. some_in (changed_to ss vs m) n is_estimated ≡ true) e some)))
         (λ apart. let s = same j known-j apart in same_some j s open_status ∙ kept.whole j known-j (sym (same_some j s is_estimated) ∙ some))
         (cases_eq j k))
-        (λ j is_inner_lem some. ⊎_elim
-        (λ e. subst (SettledIn (with_used w u) (changed_to ss vs m)) (sym e) (settled-k (subst (λ n. inner m.readings n ≡ true) e is_inner_lem) (subst (λ n. some_in (changed_to ss vs m) n is_estimated ≡ true) e some)))
-        (λ apart. let s = same j (inner-known j is_inner_lem) apart in same-settled j s u (others j apart) (kept.settled j is_inner_lem (sym (same_some j s is_estimated) ∙ some)))
+        (λ j is_region_inner some. ⊎_elim
+        (λ e. subst (SettledIn (with_used w u) (changed_to ss vs m)) (sym e) (settled-k (subst (λ n. inner m.readings n ≡ true) e is_region_inner) (subst (λ n. some_in (changed_to ss vs m) n is_estimated ≡ true) e some)))
+        (λ apart. let s = same j (inner_known j is_region_inner) apart in same_settled j s u (others j apart) (kept.settled j is_region_inner (sym (same_some j s is_estimated) ∙ some)))
         (cases_eq j k))
       where
         same : (j : ℕ) → j < region_count m.readings → (j ≡ k → ⊥) → Same j
@@ -167,5 +167,5 @@ module _ (w : Words) (m : Model) (kept : Kept w m) where
           values = λ i low high. (kept-outside i (outside j k known-j known apart i low high)).1;
         }
 
-        inner-known : (j : ℕ) → inner m.readings j ≡ true → j < region_count m.readings
-        inner-known j e = inner_below m.readings j e
+        inner_known : (j : ℕ) → inner m.readings j ≡ true → j < region_count m.readings
+        inner_known j e = inner_below m.readings j e

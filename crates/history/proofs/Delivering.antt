@@ -29,8 +29,8 @@ module _ {X : Type 0} (a : ℕ) (ys xs : List X) (fits : a + length ys ≤ lengt
   outside : in_stretch a (length ys) i ≡ false → get_or (overwritten a ys xs) i d ≡ get_or xs i d → get_or (overwritten a ys xs) i d ≡ cond (in_stretch a (length ys) i) (get_or ys (i - a) d) (get_or xs i d)
   outside out old = old ∙ sym (cond-false (in_stretch a (length ys) i) (get_or ys (i - a) d) (get_or xs i d) out)
 
-  overwritten-at : get_or (overwritten a ys xs) i d ≡ cond (in_stretch a (length ys) i) (get_or ys (i - a) d) (get_or xs i d)
-  overwritten-at =
+  overwritten_at : get_or (overwritten a ys xs) i d ≡ cond (in_stretch a (length ys) i) (get_or ys (i - a) d) (get_or xs i d)
+  overwritten_at =
       ⊎_elim
       (λ b. get_or-overwritten a ys xs fits i d b.0 b.1 ∙ sym (cond-true (in_stretch a (length ys) i) (get_or ys (i - a) d) (get_or xs i d) (in_stretch_lem a (length ys) i b.0 b.1)))
       (⊎_elim
@@ -59,5 +59,5 @@ kept_delivery w m number drift bytes q unasked c e =
     let first = (block_parts bytes).first in
     let fits : first + length (brought bytes) ≤ length m.intervals = omega (arith, a.1, brought_long bytes, c.intervals_long) in
     kept_raw (after_delivery w number drift bytes q) m.opening (overwritten first (brought bytes) m.intervals) m.readings c.opening c.readings c.owed c.rising c.within (length-overwritten first (brought bytes) m.intervals fits ∙ c.intervals_long)
-    (λ i h. overwritten-at first (brought bytes) m.intervals fits i missing ∙ ap (cond (in_stretch first (length (brought bytes)) i) (get_or (brought bytes) (i - first) missing)) (c.held i h))
+    (λ i h. overwritten_at first (brought bytes) m.intervals fits i missing ∙ ap (cond (in_stretch first (length (brought bytes)) i) (get_or (brought bytes) (i - first) missing)) (c.held i h))
     (sym a.0 ∙ c.posting) unasked

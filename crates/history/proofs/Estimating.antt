@@ -84,4 +84,4 @@ module _ (w : Words) (m : Model) (kept : Kept w m) (paid : owes m ≡ false) whe
         (λ out. stays w m kept paid i within _ _ (state_out i out) (values-out i out))
         (in_or_out (start_of m k) (length_of m k) i))
         (λ _. no_anywhere (λ i. open_status (get_or (estimated_states k P m) i raw_state).status) (start_of m k) (length_of m k) (λ i low high. ap (λ s. open_status s.status) (state_in i low high) ∙ open_no_more (P i) (state_at m i)))
-        (λ is_inner_lem _. settled is_inner_lem)
+        (λ is_region_inner _. settled is_region_inner)

@@ -23,7 +23,7 @@ pub printed : Printed
 printed = record { answers = refl; regions = refl }
 
 pub edited : Edited
-edited = record { answers = refl; questioned = refl; sheet = refl; states = refl; values = refl; nothing = refl; withdrawn = refl; raw = refl; sheet-raw = refl; owing_again = refl }
+edited = record { answers = refl; questioned = refl; sheet = refl; states = refl; values = refl; nothing = refl; withdrawn = refl; raw = refl; sheet_raw = refl; owing_again = refl }
 
 pub two_days_lem : TwoDays
 two_days_lem = record { judged = refl; answers = refl; states = refl; values = refl; unweighted = refl; unsound = refl }
@@ -39,7 +39,7 @@ told = record {
   last = refl;
   unused = refl;
   shared = refl;
-  shared-questioned = refl;
+  shared_questioned = refl;
   weighed = refl;
   exact = refl;
   allowed = refl;

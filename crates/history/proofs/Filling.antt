@@ -58,7 +58,7 @@ module _ (w : Words) (m : Model) (k : ℕ) (p : Status → Bool) (st : Status) (
       let within : i < places m = omega (arith, fits) in
       turned_or_not m i (p (status_at m i)) (with_status st (code i) (state_at m i)) (v i) (turns i within) (stays w m kept paid i within (state_at m i) (entry_at m i) refl refl)))
       (λ some. (rest (none_left gone) some).0)
-      (λ is_inner_lem some. (rest (none_left gone) some).1 is_inner_lem)
+      (λ is_region_inner some. (rest (none_left gone) some).1 is_region_inner)
 
 -- an open place may be estimated at any value
 fillable : (w : Words) (m : Model) → Kept w m → (code v i : ℕ) → i < places m → open_status (status_at m i) ≡ true → Turned m i (with_status Estimated code (state_at m i)) v
@@ -76,4 +76,4 @@ kept_filling w m k P kept e =
     let outer = or_parts (no_region m k) (inner m.readings k) (not_when PlacesOrRegionUnfit _ (passed _ _ began.further).0) in
     kept_turned w m k open_status Estimated (λ i. code_of (P i)) (λ i. weight_of (P i)) kept (leb-false (region_count m.readings) k outer.0) began.paid began.unposted refl
     (λ i. fillable w m kept (code_of (P i)) (weight_of (P i)) i)
-    (λ none _. (none, λ is_inner_lem. absurd (both_ways (inner m.readings k) outer.1 is_inner_lem)))
+    (λ none _. (none, λ is_region_inner. absurd (both_ways (inner m.readings k) outer.1 is_region_inner)))

@@ -17,19 +17,19 @@ use Rattle.history.specs.Law.{Law, Settled, Posted, is_inner, has_estimate, esti
 use Rattle.history.specs.Model.{Opening, Model, places_of, places, pulses_at, sound_at, state_at, status_at, entry_at, value_of, value_at, is_measured, is_estimated, start_of, end_of, length_of, advance_of, allowed_of, some_in, values_of}
 use Rattle.history.specs.Stretches.{total, any_where}
 use Rattle.history.proofs.Changed.{inner_below, region_end_lem, region_inside}
-use Rattle.history.proofs.Changed.{estimated-doubtful}
+use Rattle.history.proofs.Changed.{estimated_doubtful}
 use Rattle.history.proofs.Kept.{Words, words_of, shared_amount, shared_weight, Doubtful, SettledIn, PostedIn, Kept}
 use Rattle.history.proofs.Stretches.{total_ext, total_le, total_plus, anywhere_no, no_anywhere}
 use Rattle.history.proofs.Telescope.{Forward, over_stretch, telescope}
 
 -- Statuses
 
-measured-value : (st : Status) (v : ℕ) → is_measured st ≡ true → value_of st v ≡ Some v
-measured-value Raw v e = absurd (both_ways false refl e)
-measured-value Measured v e = refl
-measured-value Verified v e = refl
-measured-value Open v e = absurd (both_ways false refl e)
-measured-value Estimated v e = absurd (both_ways false refl e)
+measured_value : (st : Status) (v : ℕ) → is_measured st ≡ true → value_of st v ≡ Some v
+measured_value Raw v e = absurd (both_ways false refl e)
+measured_value Measured v e = refl
+measured_value Verified v e = refl
+measured_value Open v e = absurd (both_ways false refl e)
+measured_value Estimated v e = absurd (both_ways false refl e)
 
 -- once no place is raw, the sheet has every place's value, and 0 where there is none
 value_entry : (st : Status) (v : ℕ) → (st ≡ Raw → ⊥) → (open_status st ≡ true → v ≡ 0) → unwrap_or (value_of st v) 0 ≡ v
@@ -39,12 +39,12 @@ value_entry Verified v judged empty = refl
 value_entry Open v judged empty = sym (empty refl)
 value_entry Estimated v judged empty = refl
 
-some-value : (st : Status) (v : ℕ) → (st ≡ Raw → ⊥) → open_status st ≡ false → is_some (value_of st v) ≡ true
-some-value Raw v judged closed = absurd (judged refl)
-some-value Measured v judged closed = refl
-some-value Verified v judged closed = refl
-some-value Open v judged closed = absurd (both_ways true closed refl)
-some-value Estimated v judged closed = refl
+some_value : (st : Status) (v : ℕ) → (st ≡ Raw → ⊥) → open_status st ≡ false → is_some (value_of st v) ≡ true
+some_value Raw v judged closed = absurd (judged refl)
+some_value Measured v judged closed = refl
+some_value Verified v judged closed = refl
+some_value Open v judged closed = absurd (both_ways true closed refl)
+some_value Estimated v judged closed = refl
 
 -- The law's words with opening, readings and deliveries left open, so that those of the book and those of the history
 -- can both be put in.
@@ -95,16 +95,16 @@ module _ (w : Words) (m : Model) (kept : Kept w m) where
   -- Measured
 
   counted : (i : ℕ) → i < places m → is_measured (status_at m i) ≡ true → value_at m i ≡ Some (w.delivered i).pulses
-  counted i low e = measured-value (status_at m i) (entry_at m i) e ∙ ap Some (kept.counted i low e ∙ ap (λ x. x.pulses) (kept.held i low))
+  counted i low e = measured_value (status_at m i) (entry_at m i) e ∙ ap Some (kept.counted i low e ∙ ap (λ x. x.pulses) (kept.held i low))
 
-  pub same-sound : (i : ℕ) → i < places m → sound (w.delivered i).condition ≡ sound_at m i
-  same-sound i low = ap (λ x. sound x.condition) (sym (kept.held i low))
+  pub same_sound : (i : ℕ) → i < places m → sound (w.delivered i).condition ≡ sound_at m i
+  same_sound i low = ap (λ x. sound x.condition) (sym (kept.held i low))
 
   pub doubted : (i : ℕ) → i < places m → Doubtful (sound_at m i) (state_at m i).marks → (sound (w.delivered i).condition ≡ false) ⊎ w.questioned i
-  doubted i low = ⊎_elim (λ unsound. inl (same-sound i low ∙ unsound)) (λ marked. inr (kept.marks i low marked))
+  doubted i low = ⊎_elim (λ unsound. inl (same_sound i low ∙ unsound)) (λ marked. inr (kept.marks i low marked))
 
   doubtful : (i : ℕ) → i < places m → estimated_in m i ≡ true → (sound (w.delivered i).condition ≡ false) ⊎ w.questioned i
-  doubtful i low e = doubted i low (estimated-doubtful (status_at m i) (sound_at m i) (state_at m i).marks e (kept.grounds i low))
+  doubtful i low e = doubted i low (estimated_doubtful (status_at m i) (sound_at m i) (state_at m i).marks e (kept.grounds i low))
 
   -- Settled
 
@@ -122,8 +122,8 @@ module _ (w : Words) (m : Model) (kept : Kept w m) where
   region_values : owes m ≡ false → (k : ℕ) → total_by m.opening m.readings (value m) k ≡ values_of m k
   region_values none k = total_ext (value m) (entry_at m) (start_of m k) (length_of m k) (λ i low high. entry none i (region_in_cycle k i low high))
 
-  shared-amount : (k : ℕ) → shared_amount m k ≡ amount_by m.opening m.readings w.delivered m k
-  shared-amount k =
+  shared_amount_lem : (k : ℕ) → shared_amount m k ≡ amount_by m.opening m.readings w.delivered m k
+  shared_amount_lem k =
       ap (λ t. advance_of m k - t)
       (total_ext (λ i. cond (estimated_in m i) 0 (pulses_at m i)) (λ i. cond (estimated_in m i) 0 (w.delivered i).pulses) (start_of m k) (length_of m k)
       (λ i low high. ap (λ x. cond (estimated_in m i) 0 x.pulses) (kept.held i (region_in_cycle k i low high))))
@@ -136,12 +136,12 @@ module _ (w : Words) (m : Model) (kept : Kept w m) where
       let weight = shared_weight m k was.profile in
       let share = weight_of (was.profile i) in
       subst (λ v. Near (amount_by m.opening m.readings w.delivered m k) weight share v) (sym (entry none i (region_in_cycle k i low (omega arith))))
-      (subst (λ a. Near a weight share (entry_at m i)) (shared-amount k) (was.shared i low high e))
+      (subst (λ a. Near a weight share (entry_at m i)) (shared_amount_lem k) (was.shared i low high e))
 
   -- Posted
 
   complete : PostedIn m → (i : ℕ) → i < places m → is_some (value_at m i) ≡ true
-  complete posted i low = some-value (status_at m i) (entry_at m i) (kept.judged posted.paid i low) (posted.complete i low)
+  complete posted i low = some_value (status_at m i) (entry_at m i) (kept.judged posted.paid i low) (posted.complete i low)
 
   -- the regions between the first reading and the last
   between : (k : ℕ) → 1 ≤ k → k < 1 + (length m.readings - 1) → inner m.readings k ≡ true
@@ -154,13 +154,13 @@ module _ (w : Words) (m : Model) (kept : Kept w m) where
   starts_forward k low high = omega (arith, next k (omega arith), (regions_ordered (places m) m.readings k kept.rising kept.within).forward)
 
   -- with no reading at all both are empty
-  last-start : (r : ℕ) → start_of m (1 + (r - 1)) - start_of m 1 ≡ start_of m r - start_of m 1
-  last-start zero = omega arith
-  last-start (suc r) = ap (λ k. start_of m k - start_of m 1) (let e : 1 + (suc r - 1) ≡ suc r = omega arith in e)
+  last_start : (r : ℕ) → start_of m (1 + (r - 1)) - start_of m 1 ≡ start_of m r - start_of m 1
+  last_start zero = omega arith
+  last_start (suc r) = ap (λ k. start_of m k - start_of m 1) (let e : 1 + (suc r - 1) ≡ suc r = omega arith in e)
 
   region_by_region : between_by m.readings m ≡ over_inner_by m.readings (total_by m.opening m.readings (value m))
   region_by_region =
-      ap (total (value m) (start_of m 1)) (sym (last-start (length m.readings)))
+      ap (total (value m) (start_of m 1)) (sym (last_start (length m.readings)))
       ∙ sym (telescope (value m) (start_of m) 1 (length m.readings - 1) starts_forward)
       ∙ total_ext (over_stretch (value m) (start_of m)) (total_by m.opening m.readings (value m)) 1 (length m.readings - 1)
       (λ k low high. ap (λ e. total (value m) (start_of m k) (e - start_of m k)) (sym (next k (omega arith))))

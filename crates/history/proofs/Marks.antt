@@ -10,7 +10,7 @@ use Rattle.history.specs.Model.{Model, has_bit, held_of, places, raw_state, soun
 use Rattle.history.specs.Sanity.{MarkedExactly}
 use Rattle.history.proofs.Ruling.{is_last, judged_states, marked_at}
 use Rattle.history.proofs.Settles.{passed_by}
-use Rattle.history.proofs.Stretches.{get_d_over}
+use Rattle.history.proofs.Stretches.{get_or-over}
 
 shifted : (x j : ℕ) → x / 2 ^ suc j ≡ x / 2 / 2 ^ j
 shifted x j = ap (λ n. x / n) (pow-suc 2 j ∙ mul_comm (2 ^ j) 2) ∙ sym (div-div-eq-div-mul x 2 (2 ^ j))
@@ -56,13 +56,13 @@ marked_exactly_by k true s j = bit_or_lem s.marks (2 ^ k) j ∙ ap (λ t. has_bi
 marked_exactly_by k false s j = no_more (has_bit s.marks j) (eqb j k)
 
 -- judging leaves the marks
-marks-after : (k : ℕ) (f : Questioning) (m : Model) (i : ℕ) → i < places m → (last : Bool) → (get_or (cond last (judged_states k f m) (marked_states k f m)) i raw_state).marks ≡ (marked_at k f m i).marks
-marks-after k f m i h true = ap (λ s. s.marks) (get_d_over (places m) (λ j. judged (sound_at m j) (marked_at k f m j)) i raw_state h)
-marks-after k f m i h false = ap (λ s. s.marks) (get_d_over (places m) (marked_at k f m) i raw_state h)
+marks_after : (k : ℕ) (f : Questioning) (m : Model) (i : ℕ) → i < places m → (last : Bool) → (get_or (cond last (judged_states k f m) (marked_states k f m)) i raw_state).marks ≡ (marked_at k f m i).marks
+marks_after k f m i h true = ap (λ s. s.marks) (get_or-over (places m) (λ j. judged (sound_at m j) (marked_at k f m j)) i raw_state h)
+marks_after k f m i h false = ap (λ s. s.marks) (get_or-over (places m) (marked_at k f m) i raw_state h)
 
 pub marked_exactly : MarkedExactly
 marked_exactly k f m ok i h j =
     let e = passed_by (refusal (rule k f) m) done ok in
     ap (λ o. has_bit (state_at (after_by o (ruled k f m) m) i).marks j) e
-    ∙ ap (λ n. has_bit n j) (marks-after k f m i h (is_last k m))
+    ∙ ap (λ n. has_bit n j) (marks_after k f m i h (is_last k m))
     ∙ marked_exactly_by k (f (held_of m) i) (state_at m i) j

@@ -7,7 +7,7 @@ use Rattle.history.specs.Calls.{Call, delivery, reading, rule, verification, set
 use Rattle.history.specs.History.{History, opened, later, opening_of, Ran, Of}
 use Rattle.history.specs.Model.{Model, has_bit, new_book}
 use Rattle.history.specs.Statuses.{Awaited}
-use Rattle.history.proofs.Ruling.{rule-accepted}
+use Rattle.history.proofs.Ruling.{rule_accepted}
 use Rattle.history.proofs.Runs.{by_calls, kept}
 
 -- Masks, bit by bit from the lowest
@@ -81,7 +81,7 @@ ruling h m k f o has j = (
 accepted : (h : History) (m : Model) (c : Call) → Of h m → Owing h m → refusal c m ≡ None → Owing (later h c (returned c m)) (changed c m)
 accepted h m (delivery number drift bytes) run o e = anew (later h (delivery number drift bytes) done) (delivered bytes m) (ap (λ o. o.owed) (kept h m run).opening) (λ _ _ ran. ran)
 accepted h m (reading b x) run o e = anew (later h (reading b x) done) (entered b x m) (ap (λ o. o.owed) (kept h m run).opening) (λ _ _ ran. ran)
-accepted h m (rule k f) run o e = ruling h m k f o (rule-accepted k f m e).2
+accepted h m (rule k f) run o e = ruling h m k f o (rule_accepted k f m e).2
 accepted h m (verification a len) run o e = o
 accepted h m (settlement k P) run o e = o
 accepted h m (filling k P) run o e = o

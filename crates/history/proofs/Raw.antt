@@ -14,12 +14,12 @@ use Rattle.history.proofs.Kept.{Words, Kept, Grounds}
 use Rattle.history.proofs.Unestimated.{none_whole, none_settled}
 
 module _ (w : Words) (o : Opening) (xs : List Interval) (rs : List Reading) where
-  raw-state : (i : ℕ) → i < places_of o → state_at (raw_again o xs rs) i ≡ raw_state
-  raw-state i h = get_or-replicate (places_of o) i raw_state raw_state h
+  raw_state_lem : (i : ℕ) → i < places_of o → state_at (raw_again o xs rs) i ≡ raw_state
+  raw_state_lem i h = get_or-replicate (places_of o) i raw_state raw_state h
 
   -- no place has a status that p asks for, if raw is none
   never : (p : Status → Bool) → p Raw ≡ false → (i : ℕ) → i < places_of o → p (status_at (raw_again o xs rs) i) ≡ false
-  never p other i h = ap (λ s. p s.status) (raw-state i h) ∙ other
+  never p other i h = ap (λ s. p s.status) (raw_state_lem i h) ∙ other
 
   pub kept_raw : o ≡ w.opening → rs ≡ w.readings → (o.owed ≡ 0 → ⊥) → Rising rs → Within (places_of o) rs → length xs ≡ places_of o → ((i : ℕ) → i < places_of o → get_or xs i missing ≡ w.delivered i) → false ≡ w.posted → ((i : ℕ) → w.questioned i → ⊥) → Kept w (raw_again o xs rs)
   kept_raw same-opening same-readings some up inside long same unposted unasked =
@@ -35,13 +35,13 @@ module _ (w : Words) (o : Opening) (xs : List Interval) (rs : List Reading) wher
         values_long = length-replicate (places_of o) 0;
         held = same;
         posting = unposted;
-        raw = λ owing i h. ap (λ s. s.status) (raw-state i h);
+        raw = λ owing i h. ap (λ s. s.status) (raw_state_lem i h);
         judged = λ paid i h e. some (eqb-true o.owed 0 (not-false (eqb o.owed 0) paid));
-        marks = λ i h marked. absurd (marked (ap (λ s. s.marks) (raw-state i h)));
+        marks = λ i h marked. absurd (marked (ap (λ s. s.marks) (raw_state_lem i h)));
         marked = λ i h asked _. unasked i asked;
         counted = λ i h e. absurd (both_ways _ (never is_measured refl i h) e);
         empty = λ i h e. absurd (both_ways _ (never open_status refl i h) e);
-        grounds = λ i h. subst (λ s. Grounds s.status (sound_at (raw_again o xs rs) i) s.marks) (sym (raw-state i h)) tt;
+        grounds = λ i h. subst (λ s. Grounds s.status (sound_at (raw_again o xs rs) i) s.marks) (sym (raw_state_lem i h)) tt;
         whole = none_whole w (raw_again o xs rs) up inside unestimated;
         settled = none_settled w (raw_again o xs rs) up inside unestimated;
         closed = λ e. absurd (false≢true e);

@@ -13,7 +13,7 @@ use Rattle.history.specs.Stretches.{over}
 use Rattle.history.specs.Model.{Model, has_bit, places, pulses_at, sound_at, state_at, status_at, entry_at, is_measured, is_estimated, held_of, raw_state}
 use Rattle.history.proofs.Checks.{passed, not_when, unless}
 use Rattle.history.proofs.Kept.{Words, Kept, Doubtful, Grounds}
-use Rattle.history.proofs.Stretches.{length_over, get_d_over}
+use Rattle.history.proofs.Stretches.{length_over, get_or-over}
 use Rattle.history.proofs.Unestimated.{none_whole, none_settled}
 
 -- the words after the run: only what is questioned differs
@@ -28,12 +28,12 @@ after_rule w q = record {
 }
 
 -- a book in which a rule is owing owes
-pub some-owing : (m : Model) (k : ℕ) → has_bit m.owing k ≡ true → owes m ≡ true
-some-owing m k e = not_from_false _ (ne_eqb m.owing 0 (λ none. let one = eqb-true _ 1 e in omega (arith, shr_le m.owing k)))
+pub some_owing : (m : Model) (k : ℕ) → has_bit m.owing k ≡ true → owes m ≡ true
+some_owing m k e = not_from_false _ (ne_eqb m.owing 0 (λ none. let one = eqb-true _ 1 e in omega (arith, shr_le m.owing k)))
 
 -- an accepted run is that of an owed rule which is owing, in a book that is not posted
-pub rule-accepted : (k : ℕ) (f : Questioning) (m : Model) → refusal (rule k f) m ≡ None → (m.posted ≡ false) × (has_bit m.opening.owed k ≡ true) × (has_bit m.owing k ≡ true)
-rule-accepted k f m e =
+pub rule_accepted : (k : ℕ) (f : Questioning) (m : Model) → refusal (rule k f) m ≡ None → (m.posted ≡ false) × (has_bit m.opening.owed k ≡ true) × (has_bit m.owing k ≡ true)
+rule_accepted k f m e =
     let unposted = passed (when BookPosted m.posted) _ e in
     let owed = passed (when RuleNotOwed (not (has_bit m.opening.owed k))) _ unposted.1 in
     let owing = passed (when RuleRunAlready (not (has_bit m.owing k))) _ owed.1 in
@@ -154,15 +154,15 @@ module _ (w : Words) (m : Model) (k : ℕ) (f : Questioning) (q : ℕ → Type 0
 
   kept_by : (last : Bool) → is_last k m ≡ last → Kept (after_rule w q) (keeping_data (cond last (judged_states k f m) (marked_states k f m)) (cond last (judged_values k f m) m.values) (owing_after k m.owing) m.posted m)
   kept_by true e =
-      let state : (i : ℕ) → i < places m → get_or (judged_states k f m) i raw_state ≡ judged (sound_at m i) (after i) = λ i h. get_d_over (places m) _ i raw_state h in
-      let entry : (i : ℕ) → i < places m → get_or (judged_values k f m) i 0 ≡ measured_entry (sound_at m i) (after i) (pulses_at m i) = λ i h. get_d_over (places m) _ i 0 h in
+      let state : (i : ℕ) → i < places m → get_or (judged_states k f m) i raw_state ≡ judged (sound_at m i) (after i) = λ i h. get_or-over (places m) _ i raw_state h in
+      let entry : (i : ℕ) → i < places m → get_or (judged_values k f m) i 0 ≡ measured_entry (sound_at m i) (after i) (pulses_at m i) = λ i h. get_or-over (places m) _ i 0 h in
       kept_ruled (judged_states k f m) (judged_values k f m) (owing_after k m.owing) (length_over 0 (places m) _) (length_over 0 (places m) _)
       (λ still. absurd (both_ways _ (not_from_true _ e) still))
       (λ paid i h raw. not_raw (sound_at m i && eqb (after i).marks 0) (ap (λ s. s.status) (sym (state i h)) ∙ raw))
       (λ i h. ap (λ s. s.marks) (state i h))
       (λ i h. rw (state i h, entry i h) (place_judged (sound_at m i) (after i) (pulses_at m i)))
   kept_by false e =
-      let state : (i : ℕ) → i < places m → get_or (marked_states k f m) i raw_state ≡ after i = λ i h. get_d_over (places m) _ i raw_state h in
+      let state : (i : ℕ) → i < places m → get_or (marked_states k f m) i raw_state ≡ after i = λ i h. get_or-over (places m) _ i raw_state h in
       let raw : (i : ℕ) → i < places m → (get_or (marked_states k f m) i raw_state).status ≡ Raw = λ i h. ap (λ s. s.status) (state i h) ∙ c.raw owing i h in
       kept_ruled (marked_states k f m) m.values (owing_after k m.owing) (length_over 0 (places m) _) c.values_long
       (λ still. raw)
@@ -172,5 +172,5 @@ module _ (w : Words) (m : Model) (k : ℕ) (f : Questioning) (q : ℕ → Type 0
 
 pub kept_rule : (w : Words) (m : Model) (k : ℕ) (f : Questioning) (q : ℕ → Type 0) → Kept w m → refusal (rule k f) m ≡ None → ((i : ℕ) → w.questioned i → q i) → ((i : ℕ) → i < places m → f (held_of m) i ≡ true → q i) → ((i : ℕ) → q i → w.questioned i ⊎ (f (held_of m) i ≡ true)) → Kept (after_rule w q) (ruled k f m)
 kept_rule w m k f q c e before asked only =
-    let a = rule-accepted k f m e in
-    kept_by w m k f q c a.0 (some-owing m k a.2) before asked only (is_last k m) refl
+    let a = rule_accepted k f m e in
+    kept_by w m k f q c a.0 (some_owing m k a.2) before asked only (is_last k m) refl

@@ -16,7 +16,7 @@ use Rattle.history.specs.Model.{Model, raw_state, state_at, status_at, entry_at,
 use Rattle.history.specs.Sanity.{Resettled, SettledAgain}
 use Rattle.history.proofs.Kept.{Words, words_of, Kept}
 use Rattle.history.proofs.Changed.{Roomy, inner_below, roomy}
-use Rattle.history.proofs.SettledPlaces.{shares_in, length_part, get_d_part, share_at, long_settled, value_in, value_out}
+use Rattle.history.proofs.SettledPlaces.{shares_in, length_part, get_or-part, share_at, long_settled, value_in, value_out}
 use Rattle.history.proofs.Settles.{unborne, Settles, passed_by, settles}
 use Rattle.history.proofs.Stretches.{anywhere_no, length-rewritten, get_or-rewritten, get_or_rewritten_before, get_or_rewritten_behind, in_or_out, total_ext, anywhere_ext}
 
@@ -35,13 +35,13 @@ returning answer Open marks code e = record { estimated = refl; opens = refl; me
 returning answer Estimated marks code e = let z : ◌≡◌ {A = ℕ} 0 1 = cc in absurd (omega arith)
 
 -- weights go by what is open, and by nothing else of a place
-same-weighed : (P : Weighing) (i : ℕ) (ss ts : List State) → length ss ≡ length ts → ((j : ℕ) → j < length ss → is_open (get_or ss j raw_state) ≡ is_open (get_or ts j raw_state)) → (weights P i ss ≡ weights P i ts) × (unweighted P i ss ≡ unweighted P i ts)
-same-weighed P i [] [] long h = (refl, refl)
-same-weighed P i [] (t ∷ ts) long h = absurd (omega arith)
-same-weighed P i (s ∷ ss) [] long h = absurd (omega arith)
-same-weighed P i (s ∷ ss) (t ∷ ts) long h =
+same_weighed : (P : Weighing) (i : ℕ) (ss ts : List State) → length ss ≡ length ts → ((j : ℕ) → j < length ss → is_open (get_or ss j raw_state) ≡ is_open (get_or ts j raw_state)) → (weights P i ss ≡ weights P i ts) × (unweighted P i ss ≡ unweighted P i ts)
+same_weighed P i [] [] long h = (refl, refl)
+same_weighed P i [] (t ∷ ts) long h = absurd (omega arith)
+same_weighed P i (s ∷ ss) [] long h = absurd (omega arith)
+same_weighed P i (s ∷ ss) (t ∷ ts) long h =
     let here : is_open s ≡ is_open t = h 0 (omega arith) in
-    let more = same-weighed P (i + 1) ss ts (omega arith) (λ j low. h (suc j) (omega arith)) in
+    let more = same_weighed P (i + 1) ss ts (omega arith) (λ j low. h (suc j) (omega arith)) in
     ((λ j. cond (here j) (weight_of (P i)) 0 ∷ more.0 j), (λ j. cond (here j) (or_else (P i) i (more.1 j)) (more.1 j)))
 
 module _ (m : Model) (k : ℕ) (P : Weighing) (room : Roomy m k) (fresh : (i : ℕ) → start_of m k ≤ i → i < end_of m k → is_estimated (status_at m i) ≡ false) where
@@ -126,14 +126,14 @@ module _ (m : Model) (k : ℕ) (P : Weighing) (room : Roomy m k) (fresh : (i : �
   three_states : length three.states ≡ length one.states
   three_states = length-rewritten (start_of m k) (length_of m k) (λ j. estimated_by (P j) (state_at two j)) two.states fits_two_states ∙ two_states
 
-  same-states : three.states ≡ one.states
-  same-states = ext_get_or raw_state three.states one.states three_states (λ i within. ⊎_elim (λ inside. state_three i inside.0 (omega (arith, inside.1))) (states_out i) (in_or_out (start_of m k) (length_of m k) i))
+  same_states : three.states ≡ one.states
+  same_states = ext_get_or raw_state three.states one.states three_states (λ i within. ⊎_elim (λ inside. state_three i inside.0 (omega (arith, inside.1))) (states_out i) (in_or_out (start_of m k) (length_of m k) i))
 
-  pub measured-same : measured_of two k ≡ measured_of m k
-  measured-same = total_ext (λ i. cond (is_measured (status_at two i)) (pulses_at two i) 0) (λ i. cond (is_measured (status_at m i)) (pulses_at m i) 0) (start_of m k) (length_of m k) (λ i low high. ap (λ b. cond b (pulses_at m i) 0) (measured_two i low (omega arith)))
+  pub measured_same : measured_of two k ≡ measured_of m k
+  measured_same = total_ext (λ i. cond (is_measured (status_at two i)) (pulses_at two i) 0) (λ i. cond (is_measured (status_at m i)) (pulses_at m i) 0) (start_of m k) (length_of m k) (λ i low high. ap (λ b. cond b (pulses_at m i) 0) (measured_two i low (omega arith)))
 
-  weighed-same : (weights_in two k P ≡ weights_in m k P) × (unweighted P (start_of m k) (states_in two k) ≡ unweighted P (start_of m k) (states_in m k))
-  weighed-same = same-weighed P (start_of m k) (states_in two k) (states_in m k) (long_two ∙ sym long_m) open_at
+  weighed_same : (weights_in two k P ≡ weights_in m k P) × (unweighted P (start_of m k) (states_in two k) ≡ unweighted P (start_of m k) (states_in m k))
+  weighed_same = same_weighed P (start_of m k) (states_in two k) (states_in m k) (long_two ∙ sym long_m) open_at
     where
       long_two : length (states_in two k) ≡ end_of m k - start_of m k
       long_two = length_part (start_of m k) (end_of m k) two.states room_two.states
@@ -147,21 +147,21 @@ module _ (m : Model) (k : ℕ) (P : Weighing) (room : Roomy m k) (fresh : (i : �
           let back : start_of m k + j - start_of m k ≡ j = omega arith in
           let first : start_of m k ≤ start_of m k + j = omega arith in
           ap (λ l. is_open (get_or (states_in two k) l raw_state)) (sym back)
-          ∙ ap is_open (get_d_part (start_of m k) (end_of m k) two.states raw_state (start_of m k + j) first (omega arith))
+          ∙ ap is_open (get_or-part (start_of m k) (end_of m k) two.states raw_state (start_of m k + j) first (omega arith))
           ∙ open_two (start_of m k + j) first high
-          ∙ sym (ap is_open (get_d_part (start_of m k) (end_of m k) m.states raw_state (start_of m k + j) first (omega arith)))
+          ∙ sym (ap is_open (get_or-part (start_of m k) (end_of m k) m.states raw_state (start_of m k + j) first (omega arith)))
           ∙ ap (λ l. is_open (get_or (states_in m k) l raw_state)) back
 
-  amount-same : amount_of two k ≡ amount_of m k
-  amount-same = ap (λ n. advance_of m k - n) measured-same
+  amount_same : amount_of two k ≡ amount_of m k
+  amount_same = ap (λ n. advance_of m k - n) measured_same
 
-  shares-same : shares_in two k P ≡ shares_in m k P
-  shares-same = λ j. shares (amount-same j) (sum (weighed-same.0 j)) 0 (weighed-same.0 j)
+  shares_same : shares_in two k P ≡ shares_in m k P
+  shares_same = λ j. shares (amount_same j) (sum (weighed_same.0 j)) 0 (weighed_same.0 j)
 
   same_in : (i : ℕ) → start_of m k ≤ i → i < end_of m k → entry_at three i ≡ entry_at one i
   same_in i low high =
       value_in two k P room_two i low (omega (arith, room.forward))
-      ∙ (λ j. cond (open_two i low high j) (get_or (shares-same j) (i - start_of m k) 0) (entry_two i low high j))
+      ∙ (λ j. cond (open_two i low high j) (get_or (shares_same j) (i - start_of m k) 0) (entry_two i low high j))
       ∙ by_open (is_open (state_at m i)) refl
     where
       share : ℕ
@@ -177,15 +177,15 @@ module _ (m : Model) (k : ℕ) (P : Weighing) (room : Roomy m k) (fresh : (i : �
       (λ l. value_out two k P room_two i (inr l) ∙ get_or_rewritten_behind (start_of m k) (length_of m k) (λ j. cond (is_estimated (status_at one j)) 0 (entry_at one j)) one.values fits_one_values i 0 l)
       out
 
-  same-values : three.values ≡ one.values
-  same-values = ext_get_or 0 three.values one.values (long_settled two k P room_two ∙ two_values) (λ i within. ⊎_elim (λ inside. same_in i inside.0 (omega (arith, inside.1))) (same_out i) (in_or_out (start_of m k) (length_of m k) i))
+  same_values : three.values ≡ one.values
+  same_values = ext_get_or 0 three.values one.values (long_settled two k P room_two ∙ two_values) (λ i within. ⊎_elim (λ inside. same_in i inside.0 (omega (arith, inside.1))) (same_out i) (in_or_out (start_of m k) (length_of m k) i))
 
   pub same_book : three ≡ one
-  same_book = λ j. changed_to (same-states j) (same-values j) m
+  same_book = λ j. changed_to (same_states j) (same_values j) m
 
   -- what is open now is estimated after a settlement, and open again after a withdrawal
-  some-estimated : some_in one k is_estimated ≡ some_in m k open_status
-  some-estimated = anywhere_ext (λ i. is_estimated (status_at one i)) (λ i. is_open (state_at m i)) (start_of m k) (length_of m k) (λ i low high. estimated_one i low (omega arith))
+  some_estimated : some_in one k is_estimated ≡ some_in m k open_status
+  some_estimated = anywhere_ext (λ i. is_estimated (status_at one i)) (λ i. is_open (state_at m i)) (start_of m k) (length_of m k) (λ i low high. estimated_one i low (omega arith))
 
   some_open : some_in two k open_status ≡ some_in m k open_status
   some_open = anywhere_ext (λ i. is_open (state_at two i)) (λ i. is_open (state_at m i)) (start_of m k) (length_of m k) (λ i low high. open_two i low (omega arith))
@@ -196,16 +196,16 @@ module _ (m : Model) (k : ℕ) (P : Weighing) (room : Roomy m k) (fresh : (i : �
       ∷ when RuleStillOwing (owes m)
       ∷ when PlacesOrRegionUnfit (not (inner m.readings k))
       ∷ when NothingToChange (not (some_open j))
-      ∷ when MeasuredAboveAdvance (ltb (advance_of m k) (measured-same j))
-      ∷ at PlaceWithoutWeight (weighed-same.1 j)
-      ∷ when TotalWeightZero (unborne (amount-same j) (sum (weighed-same.0 j)))
+      ∷ when MeasuredAboveAdvance (ltb (advance_of m k) (measured_same j))
+      ∷ at PlaceWithoutWeight (weighed_same.1 j)
+      ∷ when TotalWeightZero (unborne (amount_same j) (sum (weighed_same.0 j)))
       ∷ [])
 
   known : inner m.readings k ≡ true → no_region m k ≡ false
   known e = lt-leb (region_count m.readings) k (omega (arith, inner_below m.readings k e))
 
   withdrawable : Settles m k P → refusal (withdrawal k) one ≡ None
-  withdrawable s = rw (s.unposted, s.paid, known s.is_inner_lem, some-estimated, s.some_open)
+  withdrawable s = rw (s.unposted, s.paid, known s.is_region_inner, some_estimated, s.some_open)
 
   resettled : refusal (settlement k P) m ≡ None → Resettled k P one
   resettled e =
@@ -231,7 +231,7 @@ kept_resettled w m k P kept ok = subst (λ o. Resettled k P (after_by o (settled
     room = roomy w m kept k
 
     listed : k < region_count m.readings
-    listed = inner_below m.readings k s.is_inner_lem
+    listed = inner_below m.readings k s.is_region_inner
 
     none : some_in m k is_estimated ≡ false
     none = ⊎_elim (λ yes. absurd (both_ways (some_in m k open_status) (kept.whole k listed yes) s.some_open)) (λ no. no) (cases_Bool (some_in m k is_estimated))

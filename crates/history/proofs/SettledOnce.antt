@@ -63,4 +63,4 @@ settled_once m k P Q ok =
     let e = passed_by (refusal (settlement k P) m) done ok in
     let s = settles m k P e in
     ap (λ o. answer (settlement k Q) (after_by o (settled k P m) m)) e
-    ∙ ap (λ o. answer_by o done) (nothing_left m.posted (owes m) (inner m.readings k) (some_in (settled k P m) k open_status) _ s.unposted s.paid s.is_inner_lem (none_open m k P))
+    ∙ ap (λ o. answer_by o done) (nothing_left m.posted (owes m) (inner m.readings k) (some_in (settled k P m) k open_status) _ s.unposted s.paid s.is_region_inner (none_open m k P))

@@ -16,8 +16,8 @@ use Rattle.history.proofs.Stretches.{length-overwritten, get_or-overwritten, get
 pub length_part : {X : Type 0} (a b : ℕ) (xs : List X) → b ≤ length xs → length (part a b xs) ≡ b - a
 length_part a b xs h = length-take-le (b - a) (drop a xs) (omega (arith, length-drop a xs))
 
-pub get_d_part : {X : Type 0} (a b : ℕ) (xs : List X) (d : X) (i : ℕ) → a ≤ i → i < a + (b - a) → get_or (part a b xs) (i - a) d ≡ get_or xs i d
-get_d_part a b xs d i low high =
+pub get_or-part : {X : Type 0} (a b : ℕ) (xs : List X) (d : X) (i : ℕ) → a ≤ i → i < a + (b - a) → get_or (part a b xs) (i - a) d ≡ get_or xs i d
+get_or-part a b xs d i low high =
     let on : a + (i - a) ≡ i = omega arith in
     get_or-take (b - a) (drop a xs) (i - a) d (omega arith) ∙ get_or-drop a xs (i - a) d ∙ ap (λ j. get_or xs j d) on
 
@@ -64,32 +64,32 @@ module _ (m : Model) (k : ℕ) (P : Weighing) (room : Roomy m k) where
       (λ past. get_or_overwritten_behind (start_of m k) (settled_part m k P) m.values fits i 0 (omega (arith, long_part)))
 
   module _ (i : ℕ) (low : start_of m k ≤ i) (high : i < start_of m k + length_of m k) where
-    pub state-at : get_or (states_in m k) (i - start_of m k) raw_state ≡ state_at m i
-    state-at = get_d_part (start_of m k) (end_of m k) m.states raw_state i low high
+    pub state_at_lem : get_or (states_in m k) (i - start_of m k) raw_state ≡ state_at m i
+    state_at_lem = get_or-part (start_of m k) (end_of m k) m.states raw_state i low high
 
-    pub weight-at : get_or (weights_in m k P) (i - start_of m k) 0 ≡ cond (is_open (state_at m i)) (weight_of (P i)) 0
-    weight-at =
+    pub weight_at : get_or (weights_in m k P) (i - start_of m k) 0 ≡ cond (is_open (state_at m i)) (weight_of (P i)) 0
+    weight_at =
         let on : start_of m k + (i - start_of m k) ≡ i = omega arith in
         get_or-weights P (start_of m k) (states_in m k) (i - start_of m k) raw_state (omega (arith, long_states))
-        ∙ ap (λ s. cond (is_open s) (weight_of (P (start_of m k + (i - start_of m k)))) 0) state-at
+        ∙ ap (λ s. cond (is_open s) (weight_of (P (start_of m k + (i - start_of m k)))) 0) state_at_lem
         ∙ ap (λ n. cond (is_open (state_at m i)) (weight_of (P n)) 0) on
 
     pub value_in : entry_at (settled k P m) i ≡ cond (is_open (state_at m i)) (share_at m k P i) (entry_at m i)
     value_in =
         get_or-overwritten (start_of m k) (settled_part m k P) m.values fits i 0 low (omega (arith, long_part))
         ∙ get_or-placed (states_in m k) (shares_in m k P) (part (start_of m k) (end_of m k) m.values) (i - start_of m k) raw_state (omega (arith, long_states)) (omega (arith, long_shares)) (omega (arith, long_values))
-        ∙ ap (λ s. cond (is_open s) (share_at m k P i) (get_or (part (start_of m k) (end_of m k) m.values) (i - start_of m k) 0)) state-at
-        ∙ ap (cond (is_open (state_at m i)) (share_at m k P i)) (get_d_part (start_of m k) (end_of m k) m.values 0 i low high)
+        ∙ ap (λ s. cond (is_open s) (share_at m k P i) (get_or (part (start_of m k) (end_of m k) m.values) (i - start_of m k) 0)) state_at_lem
+        ∙ ap (cond (is_open (state_at m i)) (share_at m k P i)) (get_or-part (start_of m k) (end_of m k) m.values 0 i low high)
 
     -- a place that is not open has no share
     pub share_closed : is_open (state_at m i) ≡ false → share_at m k P i ≡ 0
     share_closed closed =
         ap (λ es. get_or es (i - start_of m k) 0) (sym (open_values-placed (amount_of m k) (sum (weights_in m k P)) 0 P (start_of m k) (states_in m k) (part (start_of m k) (end_of m k) m.values) (long_states ∙ sym long_values)))
         ∙ get_or-open_values (states_in m k) (settled_part m k P) (i - start_of m k) raw_state (omega (arith, long_states)) (omega (arith, long_part))
-        ∙ cond-false (is_open (get_or (states_in m k) (i - start_of m k) raw_state)) (get_or (settled_part m k P) (i - start_of m k) 0) 0 (ap is_open state-at ∙ closed)
+        ∙ cond-false (is_open (get_or (states_in m k) (i - start_of m k) raw_state)) (get_or (settled_part m k P) (i - start_of m k) 0) 0 (ap is_open state_at_lem ∙ closed)
 
-  pub weights-total : sum (weights_in m k P) ≡ total (λ i. cond (is_open (state_at m i)) (weight_of (P i)) 0) (start_of m k) (length_of m k)
-  weights-total = sum-total (λ i. cond (is_open (state_at m i)) (weight_of (P i)) 0) (start_of m k) (length_of m k) (weights_in m k P) long_weights weight-at
+  pub weights_total : sum (weights_in m k P) ≡ total (λ i. cond (is_open (state_at m i)) (weight_of (P i)) 0) (start_of m k) (length_of m k)
+  weights_total = sum-total (λ i. cond (is_open (state_at m i)) (weight_of (P i)) 0) (start_of m k) (length_of m k) (weights_in m k P) long_weights weight_at
 
-  pub shares-total : sum (shares_in m k P) ≡ total (share_at m k P) (start_of m k) (length_of m k)
-  shares-total = sum-total (share_at m k P) (start_of m k) (length_of m k) (shares_in m k P) long_shares (λ i _ _. refl)
+  pub shares_total : sum (shares_in m k P) ≡ total (share_at m k P) (start_of m k) (length_of m k)
+  shares_total = sum-total (share_at m k P) (start_of m k) (length_of m k) (shares_in m k P) long_shares (λ i _ _. refl)

@@ -30,7 +30,7 @@ weight_bears X Y e = ⊎_elim
 pub record Settles (m : Model) (k : ℕ) (P : Weighing) : Type 0 where
   pub unposted : m.posted ≡ false
   pub paid : owes m ≡ false
-  pub is_inner_lem : inner m.readings k ≡ true
+  pub is_region_inner : inner m.readings k ≡ true
   pub some_open : some_in m k open_status ≡ true
   pub below : measured_of m k ≤ advance_of m k
   pub weighed : unweighted P (start_of m k) (states_in m k) ≡ None
@@ -45,7 +45,7 @@ pub settles : (m : Model) (k : ℕ) (P : Weighing) → refusal (settlement k P) 
 settles m k P e = record {
   unposted = not_when BookPosted m.posted (pass 0);
   paid = not_when RuleStillOwing (owes m) (pass 1);
-  is_inner_lem = unless PlacesOrRegionUnfit (inner m.readings k) (pass 2);
+  is_region_inner = unless PlacesOrRegionUnfit (inner m.readings k) (pass 2);
   some_open = unless NothingToChange (some_in m k open_status) (pass 3);
   below = ltb-false (advance_of m k) (measured_of m k) (not_when MeasuredAboveAdvance (ltb (advance_of m k) (measured_of m k)) (pass 4));
   weighed = nowhere PlaceWithoutWeight (unweighted P (start_of m k) (states_in m k)) (pass 5);

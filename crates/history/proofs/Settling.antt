@@ -13,7 +13,7 @@ use Rattle.history.specs.Stretches.{total}
 use Rattle.history.proofs.Changed.{with_used, Roomy, inner_below, region_end_lem, region_inside, roomy}
 use Rattle.history.proofs.Estimating.{open_or_measured, estimated_where_open, state_in, none_estimated, kept_estimated}
 use Rattle.history.proofs.Kept.{Words, Kept, shared_amount, shared_weight}
-use Rattle.history.proofs.SettledPlaces.{share_at, long_states, long_weights, long_settled, value_in, value_out, state-at, weight-at, share_closed, weights-total, shares-total}
+use Rattle.history.proofs.SettledPlaces.{share_at, long_states, long_weights, long_settled, value_in, value_out, state_at_lem, weight_at, share_closed, weights_total, shares_total}
 use Rattle.history.proofs.Settles.{Settles, settles}
 use Rattle.history.proofs.Stretches.{total_ext, total_plus}
 
@@ -46,7 +46,7 @@ module _ (w : Words) (m : Model) (k : ℕ) (P : Weighing) (kept : Kept w m) (ok 
   room = roomy w m kept k
 
   known : k < region_count m.readings
-  known = inner_below m.readings k ok.is_inner_lem
+  known = inner_below m.readings k ok.is_region_inner
 
   module _ (i : ℕ) (low : start_of m k ≤ i) (high : i < start_of m k + length_of m k) where
     within : i < places m
@@ -79,37 +79,37 @@ module _ (w : Words) (m : Model) (k : ℕ) (P : Weighing) (kept : Kept w m) (ok 
     pulses_left = ap (λ t. cond t 0 (pulses_at m i)) estimated ∙ cond_not (is_open (state_at m i)) 0 (pulses_at m i) ∙ ap (λ t. cond t (pulses_at m i) 0) (sym measured)
 
   -- the amount and the weight read off the estimates are those that were shared
-  amount-same : shared_amount (settled k P m) k ≡ amount_of m k
-  amount-same = ap (λ t. advance_of m k - t) (total_ext (λ i. cond (is_estimated (status_at (settled k P m) i)) 0 (pulses_at m i)) (measured_at m) (start_of m k) (length_of m k) pulses_left)
+  amount_same : shared_amount (settled k P m) k ≡ amount_of m k
+  amount_same = ap (λ t. advance_of m k - t) (total_ext (λ i. cond (is_estimated (status_at (settled k P m) i)) 0 (pulses_at m i)) (measured_at m) (start_of m k) (length_of m k) pulses_left)
 
-  weight-same : shared_weight (settled k P m) k P ≡ sum (weights_in m k P)
-  weight-same =
+  weight_same : shared_weight (settled k P m) k P ≡ sum (weights_in m k P)
+  weight_same =
       total_ext (λ i. cond (is_estimated (status_at (settled k P m) i)) (weight_of (P i)) 0) (λ i. cond (is_open (state_at m i)) (weight_of (P i)) 0) (start_of m k) (length_of m k) (λ i low high. ap (λ t. cond t (weight_of (P i)) 0) (estimated i low high))
-      ∙ sym (weights-total m k P room)
+      ∙ sym (weights_total m k P room)
 
   adds : values_of (settled k P m) k ≡ advance_of m k
   adds =
       let values = total_ext (entry_at (settled k P m)) (λ i. share_at m k P i + measured_at m i) (start_of m k) (length_of m k) value_parts in
       let parts = total_plus (share_at m k P) (measured_at m) (start_of m k) (length_of m k) in
-      let whole : total (share_at m k P) (start_of m k) (length_of m k) ≡ amount_of m k = sym (shares-total m k P room) ∙ shares_add_up (amount_of m k) (weights_in m k P) ok.borne in
+      let whole : total (share_at m k P) (start_of m k) (length_of m k) ≡ amount_of m k = sym (shares_total m k P room) ∙ shares_add_up (amount_of m k) (weights_in m k P) ok.borne in
       values ∙ parts ∙ omega (arith, ok.below)
 
   near : (i : ℕ) → start_of m k ≤ i → i < start_of m k + length_of m k → is_estimated (status_at (settled k P m) i) ≡ true → Near (shared_amount (settled k P m) k) (shared_weight (settled k P m) k P) (weight_of (P i)) (entry_at (settled k P m) i)
   near i low high e =
       let o : is_open (state_at m i) ≡ true = sym (estimated i low high) ∙ e in
-      let weight = weight-at m k P room i low high ∙ cond-true (is_open (state_at m i)) (weight_of (P i)) 0 o in
+      let weight = weight_at m k P room i low high ∙ cond-true (is_open (state_at m i)) (weight_of (P i)) 0 o in
       let value = value_in m k P room i low high ∙ cond-true (is_open (state_at m i)) (share_at m k P i) (entry_at m i) o in
-      subst (λ X. Near X (shared_weight (settled k P m) k P) (weight_of (P i)) (entry_at (settled k P m) i)) (sym amount-same)
-      (subst (λ Y. Near (amount_of m k) Y (weight_of (P i)) (entry_at (settled k P m) i)) (sym weight-same)
+      subst (λ X. Near X (shared_weight (settled k P m) k P) (weight_of (P i)) (entry_at (settled k P m) i)) (sym amount_same)
+      (subst (λ Y. Near (amount_of m k) Y (weight_of (P i)) (entry_at (settled k P m) i)) (sym weight_same)
       (subst (Near (amount_of m k) (sum (weights_in m k P)) (weight_of (P i))) (sym value)
       (subst (λ n. Near (amount_of m k) (sum (weights_in m k P)) n (share_at m k P i)) weight
       (share_near (amount_of m k) (sum (weights_in m k P)) 0 (weights_in m k P) (i - start_of m k) (omega (arith, long_weights m k P room))))))
 
-  weighed-at : (i : ℕ) → start_of m k ≤ i → i < start_of m k + length_of m k → is_estimated (status_at (settled k P m) i) ≡ true → is_some (P i) ≡ true
-  weighed-at i low high e =
+  weighed_at : (i : ℕ) → start_of m k ≤ i → i < start_of m k + length_of m k → is_estimated (status_at (settled k P m) i) ≡ true → is_some (P i) ≡ true
+  weighed_at i low high e =
       let o : is_open (state_at m i) ≡ true = sym (estimated i low high) ∙ e in
       let on : start_of m k + (i - start_of m k) ≡ i = omega arith in
-      ap (λ n. is_some (P n)) (sym on) ∙ all_weighed P (start_of m k) (states_in m k) ok.weighed (i - start_of m k) (omega (arith, long_states m k P room)) (ap is_open (state-at m k P room i low high) ∙ o)
+      ap (λ n. is_some (P n)) (sym on) ∙ all_weighed P (start_of m k) (states_in m k) ok.weighed (i - start_of m k) (omega (arith, long_states m k P room)) (ap is_open (state_at_lem m k P room i low high) ∙ o)
 
   kept_settled : Kept (with_used w (λ j. cond (eqb k j) (Some P) (w.used j))) (settled k P m)
   kept_settled =
@@ -124,7 +124,7 @@ module _ (w : Words) (m : Model) (k : ℕ) (P : Weighing) (kept : Kept w m) (ok 
         adds = adds;
         profile = P;
         last = cond-true (eqb k k) (Some P) (w.used k) (eq-eqb k k refl);
-        weighed = λ i low high. weighed-at i low (omega arith);
+        weighed = λ i low high. weighed_at i low (omega arith);
         shared = λ i low high. near i low (omega arith);
       })
 

@@ -8,9 +8,9 @@ use Rattle.history.specs.History.{History}
 use Rattle.history.specs.Model.{Model, places_of, places, sound_at, state_at, status_at}
 use Rattle.history.specs.Statuses.{Judged, Awaited, StatusesAreJudged}
 use Rattle.history.proofs.Kept.{words_of, Kept, Grounds}
-use Rattle.history.proofs.Lawful.{same-sound, doubted}
+use Rattle.history.proofs.Lawful.{same_sound, doubted}
 use Rattle.history.proofs.Owing.{Owing, some_bit, owing_awaited}
-use Rattle.history.proofs.Ruling.{some-owing}
+use Rattle.history.proofs.Ruling.{some_owing}
 use Rattle.history.proofs.Runs.{kept}
 
 module _ (h : History) (m : Model) (k : Kept (words_of h) m) (o : Owing h m) (i : ℕ) (low : i < places m) where
@@ -26,9 +26,9 @@ module _ (h : History) (m : Model) (k : Kept (words_of h) m) (o : Owing h m) (i 
   judged : Judged h m i
   judged = record {
     raw = raw;
-    waits = λ j awaited. k.raw (some-owing m j ((o j).1 awaited)) i low;
-    measured = λ e. let g = grounds _ e in (same-sound (words_of h) m k i low ∙ g.0, λ asked. k.marked i low asked g.1);
-    verified = λ e. let g = grounds _ e in (same-sound (words_of h) m k i low ∙ g.0, k.marks i low g.1);
+    waits = λ j awaited. k.raw (some_owing m j ((o j).1 awaited)) i low;
+    measured = λ e. let g = grounds _ e in (same_sound (words_of h) m k i low ∙ g.0, λ asked. k.marked i low asked g.1);
+    verified = λ e. let g = grounds _ e in (same_sound (words_of h) m k i low ∙ g.0, k.marks i low g.1);
     opened = λ e. doubted (words_of h) m k i low (grounds _ e);
     estimated = λ e. doubted (words_of h) m k i low (grounds _ e);
   }

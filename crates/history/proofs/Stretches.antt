@@ -9,8 +9,8 @@ use Rattle.history.specs.Stretches.{over, in_stretch, overwritten, rewritten, fi
 pub length_over : {X : Type 0} (a n : ℕ) (f : ℕ → X) → length (over a n f) ≡ n
 length_over a n f = length-map-range_with_len f a n
 
-pub get_d_over : {X : Type 0} (n : ℕ) (f : ℕ → X) (i : ℕ) (d : X) → i < n → get_or (over 0 n f) i d ≡ f i
-get_d_over n f i d h = get_or-map-range_with_len f 0 n i i d h (omega arith)
+pub get_or-over : {X : Type 0} (n : ℕ) (f : ℕ → X) (i : ℕ) (d : X) → i < n → get_or (over 0 n f) i d ≡ f i
+get_or-over n f i d h = get_or-map-range_with_len f 0 n i i d h (omega arith)
 
 pub in_stretch_lem : (a len i : ℕ) → a ≤ i → i < a + len → in_stretch a len i ≡ true
 in_stretch_lem a len i low high = and_from _ _ (le-leb a i low) (lt-ltb i (a + len) high)

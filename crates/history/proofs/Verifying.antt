@@ -11,7 +11,7 @@ use Rattle.history.specs.Answers.{when, at, first, owes, refusal}
 use Rattle.history.specs.Calls.{verification, with_status, verified}
 use Rattle.history.specs.Model.{Model, places, pulses_at, sound_at, state_at, status_at, entry_at, is_estimated, raw_state, start_of, end_of, length_of, some_in}
 use Rattle.history.specs.Stretches.{rewritten, first_where}
-use Rattle.history.proofs.Changed.{Turned, stays, open_doubtful, inner_below, region_end_lem, Same, same_some, same-settled, kept_changed}
+use Rattle.history.proofs.Changed.{Turned, stays, open_doubtful, inner_below, region_end_lem, Same, same_some, same_settled, kept_changed}
 use Rattle.history.proofs.Checks.{passed, not_when, nowhere}
 use Rattle.history.proofs.Kept.{Words, Kept}
 use Rattle.history.proofs.Stretches.{length-rewritten, get_or-rewritten, get_or_rewritten_before, get_or_rewritten_behind, in_or_out, none_where, anywhere_no, no_anywhere}
@@ -93,7 +93,7 @@ module _ (w : Words) (m : Model) (kept : Kept w m) (a len : ℕ) (fits : a + len
   kept_verified : owes m ≡ false → m.posted ≡ false → Kept w (verified a len m)
   kept_verified paid unposted = kept_changed w m kept (verified a len m).states (verified a len m).values w.used paid unposted (states_long w m kept a len fits (verified_at m) (pulses_at m)) (values_long w m kept a len fits (verified_at m) (pulses_at m)) (each_turned w m kept a len fits (verified_at m) (pulses_at m) paid (λ i low high. verifiable w m kept i (omega arith) (fit i low high)))
       (λ k known some. let before = estimate_before k some in same_some w m kept (verified a len m).states (verified a len m).values k (estimate_same k known before) open_status ∙ kept.whole k known before)
-      (λ k is_inner_lem some. let before = estimate_before k some in same-settled w m kept (verified a len m).states (verified a len m).values k (estimate_same k (inner_below m.readings k is_inner_lem) before) w.used refl (kept.settled k is_inner_lem before))
+      (λ k is_region_inner some. let before = estimate_before k some in same_settled w m kept (verified a len m).states (verified a len m).values k (estimate_same k (inner_below m.readings k is_region_inner) before) w.used refl (kept.settled k is_region_inner before))
 
 pub kept_verification : (w : Words) (m : Model) (a len : ℕ) → Kept w m → refusal (verification a len) m ≡ None → Kept w (verified a len m)
 kept_verification w m a len kept e =

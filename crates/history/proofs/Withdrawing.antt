@@ -7,7 +7,7 @@ use Rattle.sharing.specs.declared.state.Status.TheVariants.{Open}
 use Rattle.history.specs.Answers.{no_region, refusal}
 use Rattle.history.specs.Calls.{withdrawal, with_status, withdrawn}
 use Rattle.history.specs.Model.{Model, places, sound_at, state_at, status_at, is_estimated, some_in}
-use Rattle.history.proofs.Changed.{Turned, estimated-doubtful}
+use Rattle.history.proofs.Changed.{Turned, estimated_doubtful}
 use Rattle.history.proofs.Checks.{passed, not_when}
 use Rattle.history.proofs.Filling.{kept_turned}
 use Rattle.history.proofs.Kept.{Words, Kept}
@@ -20,7 +20,7 @@ openable w m kept i within estimated = record {
   not_raw = λ e. let z : ◌≡◌ {A = ℕ} 0 1 = cc in omega arith;
   counted = λ e. absurd (false≢true e);
   empty = λ _. refl;
-  grounds = estimated-doubtful (status_at m i) (sound_at m i) (state_at m i).marks estimated (kept.grounds i within);
+  grounds = estimated_doubtful (status_at m i) (sound_at m i) (state_at m i).marks estimated (kept.grounds i within);
 }
 
 pub kept_withdrawal : (w : Words) (m : Model) (k : ℕ) → Kept w m → refusal (withdrawal k) m ≡ None → Kept w (withdrawn k m)

@@ -180,7 +180,7 @@ pub record Edited : Type 0 where
   pub withdrawn : book_after (questioned_calls ++ (filling 3 (even 7) ∷ withdrawal 3 ∷ [])) ≡ book_after questioned_calls
   -- a reading undoes all editing, and the rule is owing again
   pub raw : (book_after (edited_calls ++ (reading 24 200 ∷ []))).states ≡ replicate 24 (state Raw 0 0)
-  pub sheet-raw : (book_after (edited_calls ++ (reading 24 200 ∷ []))).values ≡ replicate 24 0
+  pub sheet_raw : (book_after (edited_calls ++ (reading 24 200 ∷ []))).values ≡ replicate 24 0
   pub owing_again : (book_after (edited_calls ++ (reading 24 200 ∷ []))).owing ≡ 4
 
 -- Two days of 24 places, to which the first four rules are owed, with readings before the places 4, 10, 20 and 40. Places
@@ -257,7 +257,7 @@ pub record Told : Type 0 where
   pub unused : used printed_history 2 ≡ None
   pub shared : amount printed_history printed_book 1 ≡ 200
   -- what was delivered to an estimated place does not count
-  pub shared-questioned : amount (history_of (one_day 24 4) edited_calls) (book_after edited_calls) 2 ≡ 40
+  pub shared_questioned : amount (history_of (one_day 24 4) edited_calls) (book_after edited_calls) 2 ≡ 40
   pub weighed : weight printed_history printed_book 1 (even 1) ≡ 21
   -- two units are allowed for a region without an estimate, and none with one
   pub exact : slack printed_history printed_book ≡ 0

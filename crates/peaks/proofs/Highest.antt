@@ -42,13 +42,13 @@ entered_zeros (suc n) x =
     rw (a, b) (ap (λ zs. x ∷ zs) (entered_zeros n 0))
 
 -- ranks that are not filled yet hold 0
-entered-past : (ys : List ℕ) (n x : ℕ) → entered (ys ++ replicate n 0) x ≡ entered ys x ++ replicate n 0
-entered-past [] n x = entered_zeros n x
-entered-past (y ∷ ys) n x = ap (λ zs. max x y ∷ zs) (entered-past ys n (min x y))
+entered_past : (ys : List ℕ) (n x : ℕ) → entered (ys ++ replicate n 0) x ≡ entered ys x ++ replicate n 0
+entered_past [] n x = entered_zeros n x
+entered_past (y ∷ ys) n x = ap (λ zs. max x y ∷ zs) (entered_past ys n (min x y))
 
 folded_past : (xs ys : List ℕ) (n : ℕ) → fold entered (ys ++ replicate n 0) xs ≡ fold entered ys xs ++ replicate n 0
 folded_past [] ys n = refl
-folded_past (x ∷ xs) ys n = ap (λ zs. fold entered zs xs) (entered-past ys n x) ∙ folded_past xs (entered ys x) n
+folded_past (x ∷ xs) ys n = ap (λ zs. fold entered zs xs) (entered_past ys n x) ∙ folded_past xs (entered ys x) n
 
 get_or_zeros : (n k : ℕ) → ◌≡◌ {A = ℕ} (get_or (replicate n 0) k 0) 0
 get_or_zeros zero k = refl

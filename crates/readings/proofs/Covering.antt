@@ -21,17 +21,17 @@ region_at_most (r ∷ rs) i =
     ⊎_elim (λ e. rw e.0 (omega arith)) (λ e. rw e.0 (omega arith)) (leb_tells r.boundary i)
 
 -- the readings that are counted at a place stand at it or before it
-pub counted-before : (rs : List Reading) (i j : ℕ) → Rising rs → j < region_at rs i → edge rs j ≤ i
-counted-before [] i j up h = omega arith
-counted-before (r ∷ rs) i zero up h =
+pub counted_before : (rs : List Reading) (i j : ℕ) → Rising rs → j < region_at rs i → edge rs j ≤ i
+counted_before [] i j up h = omega arith
+counted_before (r ∷ rs) i zero up h =
     ⊎_elim (λ e. e.1)
     (λ e. let k : 0 < region_at rs i = omega (arith, rw e.0 at h) in
     let l = region_at_most rs i in
-    let first = counted-before rs i 0 (rising_rest r rs up) k in
+    let first = counted_before rs i 0 (rising_rest r rs up) k in
     omega (arith, up 0 1 (omega arith) (omega arith)))
     (leb_tells r.boundary i)
-counted-before (r ∷ rs) i (suc j) up h =
-    counted-before rs i j (rising_rest r rs up)
+counted_before (r ∷ rs) i (suc j) up h =
+    counted_before rs i j (rising_rest r rs up)
     (⊎_elim (λ e. omega (arith, rw e.0 at h)) (λ e. omega (arith, rw e.0 at h)) (leb_tells r.boundary i))
 
 -- the others stand after it
@@ -45,8 +45,8 @@ uncounted_after (r ∷ rs) i (suc j) up l h =
     (λ e. omega (arith, e.1, up 0 (suc j) (omega arith) l))
     (leb_tells r.boundary i)
 
-start-above : (rs : List Reading) (k : ℕ) → 0 < k → region_start rs k ≡ edge rs (k - 1)
-start-above rs k h = cond-false (eqb k 0) 0 (edge rs (k - 1)) (ne_eqb k 0 (λ e. omega arith))
+start_above : (rs : List Reading) (k : ℕ) → 0 < k → region_start rs k ≡ edge rs (k - 1)
+start_above rs k h = cond-false (eqb k 0) 0 (edge rs (k - 1)) (ne_eqb k 0 (λ e. omega arith))
 
 end_before : (n : ℕ) (rs : List Reading) (k : ℕ) → k < length rs → region_end n rs k ≡ edge rs k
 end_before n rs k h = cond-true (ltb k (length rs)) (edge rs k) n (lt-ltb k (length rs) h)
@@ -56,7 +56,7 @@ end_last n rs k h = cond-false (ltb k (length rs)) (edge rs k) n (le-ltb k (leng
 
 start_at_counted : (rs : List Reading) (i k : ℕ) → Rising rs → k ≤ region_at rs i → region_start rs k ≤ i
 start_at_counted rs i zero up h = omega arith
-start_at_counted rs i (suc k) up h = omega (arith, start-above rs (suc k) (omega arith), counted-before rs i (suc k - 1) up (omega arith))
+start_at_counted rs i (suc k) up h = omega (arith, start_above rs (suc k) (omega arith), counted_before rs i (suc k - 1) up (omega arith))
 
 end_past_counted : (n : ℕ) (rs : List Reading) (i k : ℕ) → Rising rs → i < n → region_at rs i ≤ k → i < region_end n rs k
 end_past_counted n rs i k up h l =
@@ -66,8 +66,8 @@ same_region : (n : ℕ) (rs : List Reading) (i j : ℕ) → Rising rs → j < re
 same_region n rs i j up h l =
     ⊎_elim (λ e. e)
     (⊎_elim
-    (λ b. let m = region_at_most rs i in absurd (let z : ⊥ = omega (arith, l.1, end_before n rs j (omega arith), counted-before rs i j up b) in z))
-    (λ b. absurd (let z : ⊥ = omega (arith, l.0, start-above rs j (omega arith), uncounted_after rs i (j - 1) up (omega arith) (omega arith)) in z)))
+    (λ b. let m = region_at_most rs i in absurd (let z : ⊥ = omega (arith, l.1, end_before n rs j (omega arith), counted_before rs i j up b) in z))
+    (λ b. absurd (let z : ⊥ = omega (arith, l.0, start_above rs j (omega arith), uncounted_after rs i (j - 1) up (omega arith) (omega arith)) in z)))
     (cases_order j (region_at rs i))
 
 -- each place of the cycle lies in the region counted for it, and in no other
@@ -78,24 +78,24 @@ region_covers n rs i up h = record {
   alone = λ j b l. same_region n rs i j up b l;
 }
 
-start-within : (n : ℕ) (rs : List Reading) (k : ℕ) → Within n rs → region_start rs k ≤ n
-start-within n rs zero w = omega arith
-start-within n rs (suc k) w =
-    ⊎_elim (λ b. omega (arith, start-above rs (suc k) (omega arith), w (suc k - 1) b))
-    (λ b. omega (arith, start-above rs (suc k) (omega arith), ap (λ r. r.boundary) (get_or_past rs (suc k - 1) no_reading b)))
+start_within : (n : ℕ) (rs : List Reading) (k : ℕ) → Within n rs → region_start rs k ≤ n
+start_within n rs zero w = omega arith
+start_within n rs (suc k) w =
+    ⊎_elim (λ b. omega (arith, start_above rs (suc k) (omega arith), w (suc k - 1) b))
+    (λ b. omega (arith, start_above rs (suc k) (omega arith), ap (λ r. r.boundary) (get_or_past rs (suc k - 1) no_reading b)))
     (cases_lt (suc k - 1) (length rs))
 
 start_before_end : (n : ℕ) (rs : List Reading) (k : ℕ) → Rising rs → Within n rs → region_start rs k ≤ region_end n rs k
 start_before_end n rs zero up w = omega arith
 start_before_end n rs (suc k) up w =
-    ⊎_elim (λ b. omega (arith, start-above rs (suc k) (omega arith), end_before n rs (suc k) b, up (suc k - 1) (suc k) (omega arith) b))
-    (λ b. omega (arith, end_last n rs (suc k) b, start-within n rs (suc k) w))
+    ⊎_elim (λ b. omega (arith, start_above rs (suc k) (omega arith), end_before n rs (suc k) b, up (suc k - 1) (suc k) (omega arith) b))
+    (λ b. omega (arith, end_last n rs (suc k) b, start_within n rs (suc k) w))
     (cases_lt (suc k) (length rs))
 
 pub regions_ordered : (n : ℕ) (rs : List Reading) (k : ℕ) → Rising rs → Within n rs → Ordered n rs k
 regions_ordered n rs k up w = record {
   forward = start_before_end n rs k up w;
   inside = ⊎_elim (λ b. omega (arith, end_before n rs k b, w k b)) (λ b. omega (arith, end_last n rs k b)) (cases_lt k (length rs));
-  joined = λ b. end_before n rs k b ∙ sym (start-above rs (k + 1) (omega arith) ∙ ap (edge rs) (let e : k + 1 - 1 ≡ k = omega arith in e));
+  joined = λ b. end_before n rs k b ∙ sym (start_above rs (k + 1) (omega arith) ∙ ap (edge rs) (let e : k + 1 - 1 ≡ k = omega arith in e));
   last = λ e. end_last n rs k (omega arith);
 }

@@ -18,18 +18,18 @@ err_not_ok : {T E : Type 0} (f : E) (v : T) → ◌≡◌ {A = Result T E} (Err 
 err_not_ok f v e = let z : ◌≡◌ {A = ℕ} 0 1 = cc in omega arith
 
 -- what is accepted was not met by the refusal before it
-past-refusal : {T E : Type 0} (t : Bool) (r : Result T E) (f : E) (v : T) → cond t (Err f) r ≡ Ok v → (t ≡ false) × (r ≡ Ok v)
-past-refusal true r f v e = absurd (err_not_ok f v e)
-past-refusal false r f v e = (refl, e)
+past_refusal : {T E : Type 0} (t : Bool) (r : Result T E) (f : E) (v : T) → cond t (Err f) r ≡ Ok v → (t ≡ false) × (r ≡ Ok v)
+past_refusal true r f v e = absurd (err_not_ok f v e)
+past_refusal false r f v e = (refl, e)
 
 ok_same : {T E : Type 0} (v w : T) → ◌≡◌ {A = Result T E} (Ok v) (Ok w) → v ≡ w
 ok_same v w e = cc
 
 pub entered_kept : (n g : ℕ) (rs : List Reading) (b x : ℕ) (qs : List Reading) → entered_row n g rs b x ≡ Ok qs → Kept n g rs qs
 entered_kept n g rs b x qs e =
-    let room = past-refusal (leb 32 (length rs)) _ _ qs e in
-    let place = past-refusal (ltb n b || not (above_last rs b)) _ _ qs room.1 in
-    let dials = past-refusal (leb (10 ^ g) x) _ _ qs place.1 in
+    let room = past_refusal (leb 32 (length rs)) _ _ qs e in
+    let place = past_refusal (ltb n b || not (above_last rs b)) _ _ qs room.1 in
+    let dials = past_refusal (leb (10 ^ g) x) _ _ qs place.1 in
     let parts = or_parts (ltb n b) (not (above_last rs b)) place.0 in
     subst (λ ps. Kept n g rs ps) (ok_same _ _ dials.1) (record {
       rising = λ up. rising_push rs (reading b x) up (not-false (above_last rs b) parts.1);

@@ -11,7 +11,7 @@ use Rattle.sharing.specs.Sharing.{borne_outcome, is_part, weighed_outcome, share
 use Rattle.sharing.specs.Weighing.{weighing, whole_unless}
 use Rattle.sharing.specs.Weights.{weights, unweighted}
 use Rattle.sharing.proofs.Places.{open_values-placed}
-use Rattle.sharing.proofs.Running.{shares-shared}
+use Rattle.sharing.proofs.Running.{shares_shared}
 
 whole_of : (u : Option ℕ) (n whole : ℕ) → Ok whole ≡ whole_unless u n → (u ≡ None) × (whole ≡ n)
 whole_of None n whole e = (refl, cc)
@@ -57,16 +57,16 @@ module _ (P : ℕ → Option (ℕ × ℕ)) (first : ℕ) (ss : List State) (X : 
       ∙ ap (borne_outcome X) (sym w.1)
       ∙ borne_by X whole h
 
-  pub values-accepted : share_outcome P first ss X vs ≡ Ok tt → share_values P first ss X vs ≡ shared_out P first ss X vs
-  values-accepted e = ap (λ r. cond (is_ok r) (shared_out P first ss X vs) vs) e
+  pub values_accepted : share_outcome P first ss X vs ≡ Ok tt → share_values P first ss X vs ≡ shared_out P first ss X vs
+  values_accepted e = ap (λ r. cond (is_ok r) (shared_out P first ss X vs) vs) e
 
-  pub shared-accepted : share_outcome P first ss X vs ≡ Ok tt → Shared X (weights P first ss) (open_values ss (shared_out P first ss X vs))
-  shared-accepted e =
+  pub shared_accepted : share_outcome P first ss X vs ≡ Ok tt → Shared X (weights P first ss) (open_values ss (shared_out P first ss X vs))
+  shared_accepted e =
       let parts = part_ok (is_part first ss vs) (weighed_outcome (unweighted P first ss) X (sum (weights P first ss))) (fault_at PlacesOrRegionUnfit 0) e in
       let level = eqb-true (length ss) (length vs) (and_parts (eqb (length ss) (length vs)) (leb (first + length ss) longest_cycle) parts.0).0 in
       subst (Shared X (weights P first ss)) (sym (open_values-placed X (sum (weights P first ss)) 0 P first ss vs level))
-      (shares-shared X (weights P first ss) (weighed_ok (unweighted P first ss) X (sum (weights P first ss)) parts.1))
+      (shares_shared X (weights P first ss) (weighed_ok (unweighted P first ss) X (sum (weights P first ss)) parts.1))
 
   -- the values that an accepted sharing has written
-  pub written-accepted : (us : List ℕ) → share_outcome P first ss X vs ≡ Ok tt → us ≡ shared_out P first ss X vs → (us ≡ share_values P first ss X vs) × Shared X (weights P first ss) (open_values ss us)
-  written-accepted us e w = (w ∙ sym (values-accepted e), subst (λ us. Shared X (weights P first ss) (open_values ss us)) (sym w) (shared-accepted e))
+  pub written_accepted : (us : List ℕ) → share_outcome P first ss X vs ≡ Ok tt → us ≡ shared_out P first ss X vs → (us ≡ share_values P first ss X vs) × Shared X (weights P first ss) (open_values ss us)
+  written_accepted us e w = (w ∙ sym (values_accepted e), subst (λ us. Shared X (weights P first ss) (open_values ss us)) (sym w) (shared_accepted e))

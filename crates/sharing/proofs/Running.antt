@@ -18,9 +18,9 @@ pub running_none : (X Y : ℕ) → running X Y 0 ≡ 0
 running_none X Y = rw mul-zero (zero-div Y)
 
 -- after the whole weight the whole amount is shared
-pub running-whole : (X Y : ℕ) → (0 < Y) ⊎ (X ≡ 0) → running X Y Y ≡ X
-running-whole X Y (inl h) = mul-div_cancel X h
-running-whole X Y (inr e) = rw (e, zero-mul) (zero-div Y)
+pub running_whole : (X Y : ℕ) → (0 < Y) ⊎ (X ≡ 0) → running X Y Y ≡ X
+running_whole X Y (inl h) = mul-div_cancel X h
+running_whole X Y (inr e) = rw (e, zero-mul) (zero-div Y)
 
 -- what the running share grows by lies less than one pulse from the exact share of the weight that it grows at
 pub running_near : (X Y S w : ℕ) → Near X Y w (running X Y (S + w) - running X Y S)
@@ -92,7 +92,7 @@ pub shares_add_up : (X : ℕ) (ws : List ℕ) → (0 < sum ws) ⊎ (X ≡ 0) →
 shares_add_up X ws h =
     sum-shares X (sum ws) 0 ws
     ∙ ap (λ n. running X (sum ws) n - running X (sum ws) 0) (zero-add (sum ws))
-    ∙ ap (λ n. n - running X (sum ws) 0) (running-whole X (sum ws) h)
+    ∙ ap (λ n. n - running X (sum ws) 0) (running_whole X (sum ws) h)
     ∙ ap (λ n. X - n) (running_none X (sum ws))
     ∙ omega arith
 
@@ -105,8 +105,8 @@ share_near X Y S ws j h =
 pub row_near : (X Y S a b : ℕ) (ws : List ℕ) → Near X Y (sum (between a b ws)) (sum (between a b (shares X Y S ws)))
 row_near X Y S a b ws = subst (Near X Y (sum (between a b ws))) (sym (sum_row X Y S a b ws)) (running_near X Y (S + sum (take a ws)) (sum (between a b ws)))
 
-pub shares-shared : (X : ℕ) (ws : List ℕ) → (0 < sum ws) ⊎ (X ≡ 0) → Shared X ws (shares X (sum ws) 0 ws)
-shares-shared X ws h = record {
+pub shares_shared : (X : ℕ) (ws : List ℕ) → (0 < sum ws) ⊎ (X ≡ 0) → Shared X ws (shares X (sum ws) 0 ws)
+shares_shared X ws h = record {
   whole = shares_add_up X ws h;
   each = share_near X (sum ws) 0 ws;
   rows = λ a b _ _. row_near X (sum ws) 0 a b ws;

@@ -83,8 +83,8 @@ module _ (P : ℕ → Option (ℕ × ℕ)) (first : ℕ) (ss : List State) (i : 
 pub weighing_stops : (P : ℕ → Option (ℕ × ℕ)) (first : ℕ) (ss : List State) (k : ℕ) (f : Fault) → f ≡ fault_at PlaceWithoutWeight k → unweighted P first ss ≡ Some k → Err f ≡ weighing P first ss
 weighing_stops P first ss k f a e = rw e (ap Err a)
 
-pub weighing-ends : (P : ℕ → Option (ℕ × ℕ)) (first : ℕ) (ss : List State) (whole : ℕ) → whole ≡ sum (weights P first ss) → unweighted P first ss ≡ None → Ok whole ≡ weighing P first ss
-weighing-ends P first ss whole a e = rw e (ap Ok a)
+pub weighing_ends : (P : ℕ → Option (ℕ × ℕ)) (first : ℕ) (ss : List State) (whole : ℕ) → whole ≡ sum (weights P first ss) → unweighted P first ss ≡ None → Ok whole ≡ weighing P first ss
+weighing_ends P first ss whole a e = rw e (ap Ok a)
 
 -- the value at a place, written or left
 module _ (ss : List State) (es vs : List ℕ) (i e : ℕ) (h : i < length ss) (k : i < length vs) where

@@ -8,8 +8,8 @@ use Rattle.held.specs.declared.view.Held.{Held}
 day_long : (p : ℕ) → places_a_day_known p ≡ true → (0 < p) × (p ≤ 96)
 day_long p h = (grind (arith, nat_tests), grind (arith, nat_tests))
 
-pub some-places : (h : Held) → 0 < h.cycle.places_a_day
-some-places h = (day_long h.cycle.places_a_day h.cycle.length).0
+pub some_places : (h : Held) → 0 < h.cycle.places_a_day
+some_places h = (day_long h.cycle.places_a_day h.cycle.length).0
 
 -- no cycle is longer than 31 days of 96 places
 pub cycle_short : (h : Held) → length h.intervals.now ≤ longest_cycle

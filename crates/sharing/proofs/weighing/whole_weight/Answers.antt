@@ -1,5 +1,5 @@
 use Rattle.std.proofs.Common.{◌+◌, sym, ◌∙◌, arith}
-use Rattle.sharing.proofs.Turns.{sum_more, sum_all, unweighted_skip, unweighted_stop, unweighted_all, weight_is, weighing_stops, weighing-ends}
+use Rattle.sharing.proofs.Turns.{sum_more, sum_all, unweighted_skip, unweighted_stop, unweighted_all, weight_is, weighing_stops, weighing_ends}
 use Rattle.sharing.proofs.weighing.whole_weight.Goals as goal
 
 pub returns-in-None : goal.returns-in-None
@@ -25,6 +25,6 @@ returns g c =
     let none = unweighted_all P c.args.first c.args.states.now c.loop-i.i c.loop-i-test.false in
     let rest = sum_all P c.args.first c.args.states.now c.loop-i.i c.loop-i-test.false in
     record {
-      weight = weighing-ends P c.args.first c.args.states.now c.loop-i.whole (omega arith) (sym c.loop-i.invariant.1 ∙ none);
+      weight = weighing_ends P c.args.first c.args.states.now c.loop-i.whole (omega arith) (sym c.loop-i.invariant.1 ∙ none);
       bound = omega arith;
     }

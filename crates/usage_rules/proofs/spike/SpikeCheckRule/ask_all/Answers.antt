@@ -4,7 +4,7 @@ use Rattle.held.specs.DataOf.{data_of}
 use Rattle.held.specs.declared.view.Held.{Held}
 use Rattle.peaks.specs.Counts.{shows}
 use Rattle.usage_rules.specs.Spikes.{midnight, spike_from, spike_questions}
-use Rattle.validation.proofs.Cycles.{some-places}
+use Rattle.validation.proofs.Cycles.{some_places}
 use Rattle.usage_rules.proofs.Daily.{spike_questions_highest}
 use Rattle.validation.proofs.Filled.{filled_more, filled_all}
 use Rattle.usage_rules.proofs.spike.SpikeCheckRule.ask_all.Goals as goal
@@ -39,5 +39,5 @@ returns c =
     let h : Held = c.args.held.now in
     record {
       filled = filled_all _ _ _ _ c.loop-place.auto.answers c.loop-place-test.false c.loop-place.invariant.0;
-      highest = λ i. spike_questions_highest (data_of h) i (some-places h) h.whole;
+      highest = λ i. spike_questions_highest (data_of h) i (some_places h) h.whole;
     }
