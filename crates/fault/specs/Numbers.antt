@@ -1,5 +1,5 @@
 -- The number of each refusal and of each layer, as users know them.
-use Rattle.std.specs.Prelude.{ℕ}
+use Rattle.std.specs.Prelude.{◌≡◌, ℕ}
 use Rattle.fault.specs.declared.layer.Layer.{Layer}
 use Rattle.fault.specs.declared.layer.Layer.TheVariants.{Block, Book, Profile, Call, Program}
 use Rattle.fault.specs.declared.refusal.Refusal.{Refusal}
@@ -40,3 +40,7 @@ refusal_number TotalWeightZero = 24
 refusal_number PlaceStillOpen = 25
 refusal_number RegionOutOfBalance = 26
 refusal_number LineUnreadable = 27
+
+-- No two refusals have one number.
+abbrev pub NumbersApart : Type 0
+NumbersApart = (x y : Refusal) → refusal_number x ≡ refusal_number y → x ≡ y

@@ -1,6 +1,6 @@
 // The 27 ways to be turned down. docs/REFUSALS.md says who gives each, and in which order they are checked.
 ghost use Rattle.std.specs.Prelude.{◌≡◌, ◌==◌, Decides};
-ghost use Rattle.fault.specs.Numbers.{refusal_number};
+ghost use Rattle.fault.specs.Numbers.{NumbersApart, refusal_number};
 ghost use Rattle.fault.specs.Layers.{layer_of};
 ghost use Rattle.std.specs.Cmp.Rules.{comparing};
 ghost use Rattle.std.proofs.Common.{rules};
@@ -41,7 +41,8 @@ pub enum Refusal {
 
 impl Refusal {
     pub fn number(self) -> u8
-        ensures { result ≡ refusal_number self }
+        ensures number { result ≡ refusal_number self }
+        ensures apart { NumbersApart }
     {
         self as u8
     }

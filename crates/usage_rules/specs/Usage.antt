@@ -15,7 +15,7 @@ added_places h n = sum (each n (λ i. cond (added h i) 1 0))
 abbrev pub added_pulses : HeldData → ℕ → ℕ
 added_pulses h n = sum (each n (λ i. cond (added h i) (interval_at h i).pulses 0))
 
--- T pulses over m places against past usage of the pulses u .0 over the places u .1, of which there is at least one
+-- T pulses over m places against past usage of the pulses u.0 over the places u.1, of which there is at least one
 abbrev pub high_or_low : Option (ℕ × ℕ) → ℕ → ℕ → Bool
 high_or_low None m T = false
 high_or_low (Some u) m T = nat_lt 0 m && nat_lt (u.0 * m) (2 * apart (u.0 * m) (T * u.1))
