@@ -20,8 +20,8 @@ const MOST_DAYS: u32 = 90;
 // The most days that a weight is the average of.
 const MOST_AVERAGED: u64 = 3;
 
-// A sheet of past days that fits, since only `new` makes one. That fact is promised there and is no ghost field here,
-// for no `Result` can hold a borrowing struct with one; so `weight` says what it answers whatever the parts are.
+// A sheet of past days that fits, since only `new` makes one. That fact is promised there and is no ghost field here:
+// `weight` says what it answers whatever the parts are.
 #[derive(Clone, Copy)]
 pub struct ReferenceDays<'a> {
     // of the cycle's first day: 0 for Monday to 6 for Sunday

@@ -17,8 +17,8 @@ overflow_add-added_places c = omega (arith, cycle_short c.args.held.now, c.loop-
 pub overflow_add-added_pulses : goal.overflow_add-added_pulses
 overflow_add-added_pulses c = omega (arith, cycle_short c.args.held.now, c.loop-place.invariant.3)
 
-added-here : (c : goal.Joined-is_added) → c.is_added.result ≡ added (data_of c.args.held.now) c.loop-place.place
-added-here c =
+added_here : (c : goal.Joined-is_added) → c.is_added.result ≡ added (data_of c.args.held.now) c.loop-place.place
+added_here c =
     let l : c.loop-place.place < longest_cycle = omega (arith, cycle_short c.args.held.now) in
     added_is (data_of c.args.held.now) c.loop-place.place c.ask_all.new.answers c.is_added.result l c.ask_all.ensures.filled c.is_added.ensures
 
@@ -28,9 +28,9 @@ loop-place-preserved c =
       | then-is_added w ↦
           let p : (interval_at (data_of c.args.held.now) c.loop-place.place).pulses < 65536 = omega arith in
           let q : c.if-is_added.added_pulses ≡ c.loop-place.added_pulses + (interval_at (data_of c.args.held.now) c.loop-place.place).pulses = omega (arith, w.added_pulses-is, w.from-added_pulses.ensures) in
-          added_yes (data_of c.args.held.now) c.loop-place.place c.loop-place.added_places c.loop-place.added_pulses c.if-is_added.added_places c.if-is_added.added_pulses (sym w.if-is_added.true ∙ added-here c) w.added_places-is q p c.loop-place.invariant
+          added_yes (data_of c.args.held.now) c.loop-place.place c.loop-place.added_places c.loop-place.added_pulses c.if-is_added.added_places c.if-is_added.added_pulses (sym w.if-is_added.true ∙ added_here c) w.added_places-is q p c.loop-place.invariant
       | else-is_added w ↦
-          added_no (data_of c.args.held.now) c.loop-place.place c.loop-place.added_places c.loop-place.added_pulses c.if-is_added.added_places c.if-is_added.added_pulses (sym w.if-is_added.false ∙ added-here c) w.added_places-is w.added_pulses-is c.loop-place.invariant
+          added_no (data_of c.args.held.now) c.loop-place.place c.loop-place.added_places c.loop-place.added_pulses c.if-is_added.added_places c.if-is_added.added_pulses (sym w.if-is_added.false ∙ added_here c) w.added_places-is w.added_pulses-is c.loop-place.invariant
     ]
 
 pub returns : goal.returns

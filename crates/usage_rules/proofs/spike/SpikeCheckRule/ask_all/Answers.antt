@@ -11,15 +11,15 @@ use Rattle.usage_rules.proofs.spike.SpikeCheckRule.ask_all.Goals as goal
 use Rattle.usage_rules.proofs.spike.SpikeCheckRule.ask_all.Goals.{then-start-day, else-start-day}
 
 -- the spike at hand is that of the place's day
-day-is : (c : goal.After-shows_at) → c.if-start-day.day ≡ midnight (data_of c.args.held.now) c.loop-place.place
-day-is c =
+day_is : (c : goal.After-shows_at) → c.if-start-day.day ≡ midnight (data_of c.args.held.now) c.loop-place.place
+day_is c =
     elim c.if-start-day.branch [
       | then-start-day w ↦ w.day-is ∙ c.midnight_before-start.ensures
       | else-start-day w ↦ w.day-is ∙ sym w.if-start-day.false ∙ c.midnight_before-start.ensures
     ]
 
-spike-is : (c : goal.After-shows_at) → c.if-start-day.spike ≡ spike_from (data_of c.args.held.now) c.if-start-day.day
-spike-is c =
+spike_is : (c : goal.After-shows_at) → c.if-start-day.spike ≡ spike_from (data_of c.args.held.now) c.if-start-day.day
+spike_is c =
     elim c.if-start-day.branch [
       | then-start-day w ↦ w.spike-is ∙ w.spike_from-spike-then-start-day.ensures ∙ ap (spike_from (data_of c.args.held.now)) (sym w.day-is)
       | else-start-day w ↦ w.spike-is ∙ c.loop-place.invariant.1 ∙ ap (spike_from (data_of c.args.held.now)) (sym w.day-is)
@@ -31,8 +31,8 @@ answer_is h i day s r e f g = e ∙ ap (λ t. in_cycle h i && shows t (interval_
 pub loop-place-preserved : goal.loop-place-preserved
 loop-place-preserved c =
     let i : c.loop-place.place < length c.loop-place.answers = omega arith in
-    let e = answer_is (data_of c.args.held.now) c.loop-place.place _ _ _ c.shows_at.ensures (spike-is c) (day-is c) in
-    (filled_more _ _ _ _ i e c.loop-place.invariant.0, spike-is c)
+    let e = answer_is (data_of c.args.held.now) c.loop-place.place _ _ _ c.shows_at.ensures (spike_is c) (day_is c) in
+    (filled_more _ _ _ _ i e c.loop-place.invariant.0, spike_is c)
 
 pub returns : goal.returns
 returns c =
