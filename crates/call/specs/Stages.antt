@@ -1,5 +1,5 @@
 -- A call from dialling to hanging up.
-use Rattle.std.specs.Prelude.{ℕ, cond, Ok, Err, Result, ◌==◌}
+use Rattle.std.specs.Prelude.{ℕ, Ok, Err, Result, ◌==◌, if◌then◌else◌}
 use Rattle.fault.specs.declared.refusal.Refusal.{Refusal}
 use Rattle.fault.specs.declared.refusal.Refusal.TheVariants.{DeviceClockOff, OtherMeterAnswered}
 use Rattle.fault.specs.Faults.{fault_at}
@@ -14,12 +14,15 @@ abbrev pub waiting_for : ℕ → Waiting
 waiting_for number = record { number = number }
 
 -- a refusal hands the waiting call back as it was
-abbrev pub turned_down : Waiting → Refusal → Result Identified Unanswered
-turned_down w r = Err (record { call = w; fault = fault_at r 0 })
+abbrev pub turned_down : Waiting → Refusal → Unanswered
+turned_down w r = record { call = w; fault = fault_at r 0 }
 
 -- the device's clock is checked first, then the number that answered
 abbrev pub identified : Waiting → Clocks → ℕ → Result Identified Unanswered
-identified w c answered = cond (device_off c) (turned_down w DeviceClockOff) (cond (answered == w.number) (Ok (record { number = w.number; drift = drift_of c })) (turned_down w OtherMeterAnswered))
+identified w c answered =
+    if device_off c then Err (turned_down w DeviceClockOff)
+    else if answered == w.number then Ok (record { number = w.number; drift = drift_of c })
+    else Err (turned_down w OtherMeterAnswered)
 
 abbrev pub hung_up : Identified → Over
 hung_up i = record { number = i.number; drift = i.drift }

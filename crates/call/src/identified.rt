@@ -33,6 +33,7 @@ impl Identified {
         Stretch::read(bytes)
     }
 
+    // Taken apart whole, since an identified call cannot be dropped.
     pub fn hang_up(self) -> Over
         ensures { result ≡ hung_up self }
     {

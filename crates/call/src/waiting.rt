@@ -1,6 +1,6 @@
 // A call that is dialled and not answered yet.
 ghost use Rattle.std.specs.Prelude.{◌≡◌};
-ghost use Rattle.call.specs.Stages.{waiting_for, identified};
+ghost use Rattle.call.specs.Stages.{waiting_for, turned_down, identified};
 
 use crate::clocks::Clocks;
 use crate::identified::Identified;
@@ -35,21 +35,24 @@ impl Waiting {
         ensures { result ≡ identified self clocks answered }
     {
         if clocks.device_is_off() {
-            return Err(Unanswered {
-                call: self,
-                fault: Fault::at(Refusal::DeviceClockOff, 0),
-            });
+            return Err(self.turned_down(Refusal::DeviceClockOff));
         }
         if answered != self.number {
-            return Err(Unanswered {
-                call: self,
-                fault: Fault::at(Refusal::OtherMeterAnswered, 0),
-            });
+            return Err(self.turned_down(Refusal::OtherMeterAnswered));
         }
-        let Waiting { number } = self;
         Ok(Identified {
-            number,
+            number: self.number,
             drift: clocks.drift(),
         })
+    }
+
+    // Hands the waiting call back as it was.
+    fn turned_down(self, refusal: Refusal) -> Unanswered
+        ensures { result ≡ turned_down self refusal }
+    {
+        Unanswered {
+            call: self,
+            fault: refusal.into(),
+        }
     }
 }

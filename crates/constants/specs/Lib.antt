@@ -1,4 +1,5 @@
 pub mod Limits
+pub mod Lengths
 pub mod Dials
 pub mod Sizes
 pub mod Opening

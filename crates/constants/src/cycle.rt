@@ -2,6 +2,9 @@
 ghost use Rattle.std.specs.Prelude.{◌≡◌, ◌*◌, ◌<◌, ◌≤◌, true};
 ghost use Rattle.constants.specs.Limits.{places_a_day_known};
 
+// The days of the longest cycle.
+pub const MOST_DAYS: u32 = 31;
+
 // The places of the longest cycle: 31 days of 96.
 pub const LONGEST_CYCLE: usize = 2976;
 

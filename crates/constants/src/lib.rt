@@ -3,10 +3,12 @@
 #![tactic(auto)]
 
 pub mod cycle;
+pub mod interval_length;
 mod opening;
 pub mod register;
 pub mod usage;
 
 pub use cycle::{Cycle, LONGEST_CYCLE};
+pub use interval_length::{IntervalLength, UnknownLength};
 pub use register::Register;
 pub use usage::Usage;

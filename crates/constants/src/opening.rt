@@ -4,23 +4,26 @@ ghost use Rattle.std.specs.Result.{result_map_both};
 ghost use Rattle.constants.specs.Sizes.{cycle_sizes, register_sizes, usage_sizes};
 ghost use Rattle.constants.specs.Opening.{opened_cycle, opened_register, opened_usage};
 
-use crate::cycle::{Cycle, LONGEST_CYCLE};
+use crate::cycle::{Cycle, LONGEST_CYCLE, MOST_DAYS};
+use crate::interval_length::IntervalLength;
 use crate::register::Register;
 use crate::usage::Usage;
 use fault::{Fault, Refusal};
 use intervals::MOST_PULSES;
 
+const OUTSIDE: Refusal = Refusal::OpeningOutsideLimits;
+
 impl Cycle {
     pub fn new(days: u32, places_a_day: u32, first_weekday: u32) -> Result<Cycle, Fault>
         ensures { result_map_both cycle_sizes (λ f. f) result ≡ opened_cycle days places_a_day first_weekday }
     {
-        let known = places_a_day == 24 || places_a_day == 48 || places_a_day == 96;
-        if days < 1 || days > 31 || !known || first_weekday > 6 {
-            return Err(Fault::at(Refusal::OpeningOutsideLimits, 0));
+        let length = IntervalLength::try_from(places_a_day).map_err(|_| OUTSIDE)?;
+        if !(1..=MOST_DAYS).contains(&days) || first_weekday > 6 {
+            return Err(OUTSIDE.into());
         }
         Ok(Cycle {
             days: days as usize,
-            places_a_day: places_a_day as usize,
+            places_a_day: length.places_a_day(),
             first_weekday: first_weekday as usize,
         })
     }
@@ -30,8 +33,8 @@ impl Register {
     pub fn new(dials: u32, pulses_per_unit: u32) -> Result<Register, Fault>
         ensures { result_map_both register_sizes (λ f. f) result ≡ opened_register dials pulses_per_unit }
     {
-        if dials < 4 || dials > 6 || pulses_per_unit < 1 || pulses_per_unit > 1000 {
-            return Err(Fault::at(Refusal::OpeningOutsideLimits, 0));
+        if !(4..=6).contains(&dials) || !(1..=1000).contains(&pulses_per_unit) {
+            return Err(OUTSIDE.into());
         }
         Ok(Register {
             dials: dials as u8,
@@ -48,7 +51,7 @@ impl Usage {
         if u64::from(pulses) > u64::from(MOST_PULSES) * u64::from(places)
             || places as usize > LONGEST_CYCLE
         {
-            return Err(Fault::at(Refusal::OpeningOutsideLimits, 0));
+            return Err(OUTSIDE.into());
         }
         if places == 0 {
             return Ok(None);

@@ -20,11 +20,7 @@ impl Register {
         ensures some { 0 < result }
         ensures few { result ≤ 1000000 }
     {
-        match self.dials {
-            4 => 10_000,
-            5 => 100_000,
-            _ => 1_000_000,
-        }
+        10u32.pow(u32::from(self.dials))
     }
 
     // How far the dials went from one reading to a later one.

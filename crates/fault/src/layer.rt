@@ -7,24 +7,18 @@ use std::fmt;
 
 #[derive(Clone, Copy, PartialEq, Eq, Debug)]
 pub enum Layer {
-    Block,
-    Book,
-    Profile,
-    Call,
-    Program,
+    Block = 1,
+    Book = 2,
+    Profile = 3,
+    Call = 4,
+    Program = 5,
 }
 
 impl Layer {
     pub fn number(self) -> u8
         ensures { result ≡ layer_number self }
     {
-        match self {
-            Layer::Block => 1,
-            Layer::Book => 2,
-            Layer::Profile => 3,
-            Layer::Call => 4,
-            Layer::Program => 5,
-        }
+        self as u8
     }
 }
 
@@ -32,13 +26,12 @@ impl fmt::Display for Layer {
     ghost output = { λ l. Some (layer_name l) };
 
     fn fmt<W: fmt::Write>(&self, f: &mut fmt::Formatter<W>) -> fmt::Result {
-        let name = match self {
+        f.write_str(match self {
             Layer::Block => "block",
             Layer::Book => "book",
             Layer::Profile => "profile",
             Layer::Call => "call",
             Layer::Program => "program",
-        };
-        f.write_str(name)
+        })
     }
 }

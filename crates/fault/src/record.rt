@@ -5,6 +5,7 @@ ghost use Rattle.fault.specs.Words.{fault_line};
 
 use crate::layer::Layer;
 use crate::refusal::Refusal;
+use std::error::Error;
 use std::fmt;
 
 #[derive(Clone, Copy, PartialEq, Eq, Debug)]
@@ -27,13 +28,27 @@ impl Fault {
     }
 }
 
+// A refusal that names no place and no region.
+impl From<Refusal> for Fault {
+    ghost from_gives = { λ r x. x ≡ fault_at r 0 };
+
+    fn from(refusal: Refusal) -> Fault {
+        Fault::at(refusal, 0)
+    }
+}
+
 impl fmt::Display for Fault {
     ghost output = { λ x. Some (fault_line x) };
 
     fn fmt<W: fmt::Write>(&self, f: &mut fmt::Formatter<W>) -> fmt::Result {
-        let number = self.refusal.number();
-        let position = self.position;
-        let layer = self.layer.number();
-        write!(f, "refusal {number}, position {position}, layer {layer}")
+        write!(
+            f,
+            "refusal {}, position {}, layer {}",
+            self.refusal.number(),
+            self.position,
+            self.layer.number(),
+        )
     }
 }
+
+impl Error for Fault {}

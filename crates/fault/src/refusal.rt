@@ -1,14 +1,11 @@
 // The 27 ways to be turned down. docs/REFUSALS.md says who gives each, and in which order they are checked.
-ghost use Rattle.std.specs.Prelude.{◌≡◌, ◌==◌, Decides};
+ghost use Rattle.std.specs.Prelude.{◌≡◌};
 ghost use Rattle.fault.specs.Numbers.{NumbersApart, refusal_number};
 ghost use Rattle.fault.specs.Layers.{layer_of};
-ghost use Rattle.std.specs.Cmp.Rules.{comparing};
-ghost use Rattle.std.proofs.Common.{rules};
-ghost use Rattle.std.specs.Ordering.{on};
 
 use crate::layer::Layer;
 
-#[derive(Clone, Copy, Debug)]
+#[derive(Clone, Copy, PartialEq, Eq, Debug)]
 pub enum Refusal {
     OpeningOutsideLimits = 1,
     ReferenceDaysUnfit = 2,
@@ -60,22 +57,4 @@ impl Refusal {
             _ => Layer::Book,
         }
     }
-}
-
-// Written out, so that it promises that the two are the same, and not only what a derived one computes.
-impl PartialEq for Refusal {
-    ghost eq = { on refusal_number ◌==◌ };
-
-    ghost laws = { Prim.search (comparing, rules) };
-
-    fn eq(&self, other: &Refusal) -> bool
-        ensures numbers { result ≡ (refusal_number self.now == refusal_number other.now) }
-        ensures same { Decides result (self.now ≡ other.now) }
-    {
-        self.number() == other.number()
-    }
-}
-
-impl Eq for Refusal {
-    ghost laws = { Prim.search (comparing, rules) };
 }

@@ -1,6 +1,7 @@
 -- What every history keeps true of its book gives the law of runs.
 use Rattle.std.proofs.Common.{◌≡◌, ℕ, zero, suc, ◌+◌, ◌-◌, ◌*◌, ◌<◌, ◌≤◌, true, false, cond, not, ◌&&◌, ltb, ◌⊎◌, List, length, is_some, Some, unwrap_or, sym, refl, ap, ◌∙◌, subst, inl, inr, ⊎_elim, arith}
 use Rattle.std.proofs.lemmas.Bool.{cases_Bool, both_ways, and_from, ltb-false, lt-ltb, cond-true, cond-false, not_from_false}
+use Rattle.std.specs.Int.{abs_diff}
 use Rattle.intervals.specs.declared.interval.Interval.{Interval}
 use Rattle.intervals.specs.Conditions.{sound}
 use Rattle.readings.specs.declared.reading.Reading.{Reading}
@@ -10,7 +11,6 @@ use Rattle.sharing.specs.declared.state.Status.{Status}
 use Rattle.sharing.specs.declared.state.Status.TheVariants.{Raw, Measured, Verified, Open, Estimated}
 use Rattle.sharing.specs.Laws.{Near}
 use Rattle.sharing.specs.Weights.{weight_of, open_status}
-use Rattle.validation.specs.Places.{apart}
 use Rattle.history.specs.Answers.{owes}
 use Rattle.history.specs.History.{History, delivered_at, was_posted}
 use Rattle.history.specs.Law.{Law, Settled, Posted, is_inner, has_estimate, estimated_in, value}
@@ -179,8 +179,8 @@ module _ (w : Words) (m : Model) (kept : Kept w m) where
       (λ no-est.
       let all : slack_by m.opening m.readings m k ≡ allowed_of m k = cond-false est 0 (allowed_of m k) no-est in
       let here : (inner m.readings k && not est) ≡ true = and_from (inner m.readings k) (not est) within (not_from_false est no-est) in
-      let far : ltb (allowed_of m k) (apart (values_of m k) (advance_of m k)) ≡ false = sym (ap (λ b. b && ltb (allowed_of m k) (apart (values_of m k) (advance_of m k))) here) ∙ posted.balanced k known in
-      let near = ltb-false (allowed_of m k) (apart (values_of m k) (advance_of m k)) far in
+      let far : ltb (allowed_of m k) (abs_diff (values_of m k) (advance_of m k)) ≡ false = sym (ap (λ b. b && ltb (allowed_of m k) (abs_diff (values_of m k) (advance_of m k))) here) ∙ posted.balanced k known in
+      let near = ltb-false (allowed_of m k) (abs_diff (values_of m k) (advance_of m k)) far in
       (omega arith, omega arith))
       (cases_Bool est)
 

@@ -1,5 +1,6 @@
 -- What a call answers: the first refusal that applies, in the order listed, or that it is accepted.
 use Rattle.std.specs.Prelude.{ℕ, suc, ◌+◌, ◌^◌, Bool, cond, not, ◌&&◌, ◌||◌, List, [], ◌∷◌, length, ℤ, pos, negsuc, Some, None, sum, Option, ◌==◌, nat_le, nat_lt}
+use Rattle.std.specs.Int.{abs_diff}
 use Rattle.delivery.specs.Blocks.{shaped, place_count, block_parts, first_above}
 use Rattle.fault.specs.declared.record.Fault.{Fault}
 use Rattle.fault.specs.declared.refusal.Refusal.{Refusal}
@@ -8,7 +9,6 @@ use Rattle.fault.specs.Faults.{fault_at}
 use Rattle.readings.specs.Entering.{above_last}
 use Rattle.readings.specs.Regions.{region_count, inner}
 use Rattle.sharing.specs.Weights.{is_open, open_status, unweighted}
-use Rattle.validation.specs.Places.{apart}
 use Rattle.history.specs.Calls.{Call, delivery, reading, rule, verification, settlement, filling, withdrawal, posting, changed, amount_of, states_in, weights_in}
 use Rattle.history.specs.Model.{Model, has_bit, places, sound_at, state_at, is_estimated, entry_at, start_of, advance_of, allowed_of, some_in, values_of, measured_of}
 use Rattle.history.specs.Stretches.{first_where, total}
@@ -44,7 +44,7 @@ no_region m k = nat_le (region_count m.readings) k
 
 -- an inner region without an estimate whose values are too far from its advance
 abbrev pub out_of_balance : Model → ℕ → Bool
-out_of_balance m k = (inner m.readings k && not (some_in m k is_estimated)) && nat_lt (allowed_of m k) (apart (values_of m k) (advance_of m k))
+out_of_balance m k = (inner m.readings k && not (some_in m k is_estimated)) && nat_lt (allowed_of m k) (abs_diff (values_of m k) (advance_of m k))
 
 -- The refusals of each call, in order.
 abbrev pub checks : Call → Model → List (Option Fault)

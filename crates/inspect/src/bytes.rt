@@ -1,24 +1,21 @@
 // The block's bytes from standard input.
-ghost use Rattle.std.specs.Prelude.{◌≤◌, length, IfOk};
+ghost use Rattle.std.specs.Prelude.{◌≡◌, ◌≤◌, take, vec_len, IfOk, IfSome};
 
+use std::alloc::Global;
 use std::io;
 use std::io::Read;
 
-// A block of 65,535 places.
-pub(crate) const LONGEST: usize = 327_679;
+// A byte more than a block of 65,535 places has. What would come after it does not matter: a block that fills more than
+// the longest is refused for its length.
+const MOST_BYTES: usize = 327_680;
 
-// Reads until the input ends or the room is full, and says how many bytes came. What would come after a full room
-// does not matter: a block that fills more than the longest is refused for its length.
-pub(crate) fn fill<R: Read>(input: &mut R, room: &mut [u8]) -> io::Result<usize>
-    ensures { IfOk result (λ n. n ≤ length room.old) }
+pub(crate) fn block_bytes<R: Read + Drop>(input: R, heap: Global) -> io::Result<Vec<u8>>
+    ensures bound { IfOk result (λ v. vec_len v ≤ 327680) }
+    ensures value { IfOk result (λ v. IfSome (R.remaining input) (λ xs. v.items ≡ take 327680 xs)) }
 {
-    let mut filled = 0;
-    while filled < room.len() {
-        let more = input.read(&mut room[filled..])?;
-        if more == 0 {
-            break;
-        }
-        filled += more;
-    }
-    Ok(filled)
+    let mut bytes = Vec::new(heap);
+    input.take(MOST_BYTES as u64).read_to_end(&mut bytes)?;
+    // Cuts nothing off. The library says how much `take` gives only where a reader's bytes are known.
+    bytes.truncate(MOST_BYTES);
+    Ok(bytes)
 }

@@ -8,33 +8,28 @@
 mod bytes;
 mod steps;
 
-use bytes::{LONGEST, fill};
+use bytes::block_bytes;
 use call::Arguments;
-use std::alloc::Global;
+use std::alloc::{AllocError, Global};
 use std::io::{BufWriter, Write};
 use std::{env, io};
-use steps::call_meter;
+use steps::Inspection;
 
 // What the command line's words say as numbers; a word list that is no text at all says nothing.
-fn words(rt: &HostRuntime, heap: Global) -> io::Result<Vec<Option<u32>>> {
-    let mut numbers = Vec::new(heap);
-    if let Ok(args) = env::args(rt) {
-        for word in args.skip(1) {
-            numbers.push(word.parse::<u32>().ok())?;
-        }
-    }
-    Ok(numbers)
+fn words(rt: &HostRuntime, heap: Global) -> Result<Vec<Option<u32>>, AllocError> {
+    let words = env::args(rt).ok().into_iter().flatten();
+    words.skip(1).map(|word| word.parse().ok()).collect(heap)
 }
 
 fn main(rt: HostRuntime) -> io::Result<()> {
     let heap = rt.alloc();
-    let mut room = vec![in heap; 0u8; LONGEST + 1]?;
-    let length = fill(&mut rt.stdin(), &mut room)?;
+    let bytes = block_bytes(rt.stdin(), heap)?;
     let words = words(&rt, heap)?;
-    let mut out = BufWriter::new(heap, rt.stdout())?;
-    match Arguments::from_words(&words) {
-        Ok(arguments) => call_meter(&mut out, heap, &arguments, &room[0..length])?,
-        Err(fault) => writeln!(out, "{fault}")?,
+    let out = BufWriter::new(heap, rt.stdout())?;
+    let mut inspection = Inspection { out, heap };
+    match Arguments::try_from(words.as_slice()) {
+        Ok(arguments) => inspection.call_meter(&arguments, &bytes)?,
+        Err(fault) => writeln!(inspection.out, "{fault}")?,
     }
-    out.flush()
+    inspection.out.flush()
 }

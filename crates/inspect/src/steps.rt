@@ -7,85 +7,68 @@ use std::alloc::Global;
 use std::io;
 use std::io::Write;
 
-pub(crate) fn call_meter<W: Write>(
-    out: &mut W,
-    heap: Global,
-    arguments: &Arguments,
-    bytes: &[u8],
-) -> io::Result<()> {
-    let waiting = Waiting::dial(arguments.dialled);
-    let number = waiting.number();
-    writeln!(out, "dialled {number}")?;
-    match waiting.identify(arguments.clocks, arguments.answered) {
-        Ok(call) => {
-            let shown = take_delivery(out, heap, &call, bytes);
-            let _over = call.hang_up();
-            shown?;
-            writeln!(out, "hung up")
-        }
-        Err(unanswered) => {
-            let fault = unanswered.fault;
-            writeln!(out, "{fault}")
-        }
-    }
+// Where the steps are printed, and the heap for what they hold on the way.
+#[derive(Drop)]
+pub(crate) struct Inspection<W> {
+    pub(crate) out: W,
+    pub(crate) heap: Global,
 }
 
-fn take_delivery<W: Write>(
-    out: &mut W,
-    heap: Global,
-    call: &Identified,
-    bytes: &[u8],
-) -> io::Result<()> {
-    let drift = call.drift();
-    writeln!(out, "identified, drift {drift} seconds")?;
-    match call.take_block(bytes) {
-        Ok(stretch) => show_stretch(out, heap, &stretch, bytes),
-        Err(fault) => writeln!(out, "{fault}"),
-    }
-}
-
-fn show_stretch<W: Write>(
-    out: &mut W,
-    heap: Global,
-    stretch: &Stretch<'_>,
-    bytes: &[u8],
-) -> io::Result<()> {
-    let first = stretch.first();
-    let count = stretch.count();
-    writeln!(out, "first place {first}, {count} places")?;
-    let mut intervals = Vec::new(heap);
-    for i in 0..count {
-        if let Some(interval) = stretch.interval(i) {
-            show_interval(out, usize::from(first).saturating_add(i), interval)?;
-            intervals.push(interval)?;
+impl<W: Write> Inspection<W> {
+    pub(crate) fn call_meter(&mut self, arguments: &Arguments, bytes: &[u8]) -> io::Result<()> {
+        let waiting = Waiting::dial(arguments.dialled);
+        let number = waiting.number();
+        writeln!(self.out, "dialled {number}")?;
+        match waiting.identify(arguments.clocks, arguments.answered) {
+            Ok(call) => {
+                // hung up even where a step could not be printed
+                let shown = self.take_delivery(&call, bytes);
+                let _over = call.hang_up();
+                shown?;
+                writeln!(self.out, "hung up")
+            }
+            Err(unanswered) => writeln!(self.out, "{}", unanswered.fault),
         }
     }
-    write_back(out, heap, first, &intervals, bytes)
-}
 
-fn show_interval<W: Write>(out: &mut W, place: usize, interval: Interval) -> io::Result<()> {
-    let pulses = interval.pulses;
-    let condition = interval.condition;
-    writeln!(out, "place {place}: {pulses} pulses, {condition}")
-}
-
-fn write_back<W: Write>(
-    out: &mut W,
-    heap: Global,
-    first: u16,
-    intervals: &[Interval],
-    bytes: &[u8],
-) -> io::Result<()> {
-    let mut buffer = vec![in heap; 0u8; bytes.len()]?;
-    match write_block(first, intervals, &mut buffer) {
-        Ok(written) => {
-            let same = if buffer.as_slice() == bytes {
-                "the same"
-            } else {
-                "not the same"
-            };
-            writeln!(out, "written back {written} bytes, {same}")
+    fn take_delivery(&mut self, call: &Identified, bytes: &[u8]) -> io::Result<()> {
+        let drift = call.drift();
+        writeln!(self.out, "identified, drift {drift} seconds")?;
+        match call.take_block(bytes) {
+            Ok(stretch) => {
+                let intervals = self.show_stretch(&stretch)?;
+                self.write_back(stretch.first(), &intervals, bytes)
+            }
+            Err(fault) => writeln!(self.out, "{fault}"),
         }
-        Err(fault) => writeln!(out, "{fault}"),
+    }
+
+    // Gives the intervals that it printed.
+    fn show_stretch(&mut self, stretch: &Stretch<'_>) -> io::Result<Vec<Interval>> {
+        let first = stretch.first();
+        let count = stretch.count();
+        writeln!(self.out, "first place {first}, {count} places")?;
+        let intervals: Vec<Interval> = (0..count)
+            .filter_map(|i| stretch.interval(i))
+            .collect(self.heap)?;
+        for (place, Interval { pulses, condition }) in (usize::from(first)..).zip(&intervals) {
+            writeln!(self.out, "place {place}: {pulses} pulses, {condition}")?;
+        }
+        Ok(intervals)
+    }
+
+    fn write_back(&mut self, first: u16, intervals: &[Interval], bytes: &[u8]) -> io::Result<()> {
+        let mut buffer = vec![in self.heap; 0u8; bytes.len()]?;
+        match write_block(first, intervals, &mut buffer) {
+            Ok(written) => {
+                let same = if buffer.as_slice() == bytes {
+                    "the same"
+                } else {
+                    "not the same"
+                };
+                writeln!(self.out, "written back {written} bytes, {same}")
+            }
+            Err(fault) => writeln!(self.out, "{fault}"),
+        }
     }
 }

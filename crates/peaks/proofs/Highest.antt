@@ -1,24 +1,12 @@
 -- The six highest of a row of counts, kept while the row is gone through.
-use Rattle.std.proofs.Common.{◌≡◌, ℕ, zero, suc, ◌+◌, ◌<◌, ◌≤◌, min, max, true, false, List, [], ◌∷◌, ◌++◌, length, get_or, take, drop, set, replicate, fold, sym, refl, ap, ◌∙◌, append_assoc, arith, lit<}
-use Rattle.std.proofs.lemmas.List.{take_more_set, drop-set-lt, drop_more, take_all, drop_all, take_at, get_or-take, length-replicate}
+use Rattle.std.proofs.Common.{◌≡◌, ℕ, zero, suc, ◌+◌, ◌<◌, ◌≤◌, min, max, true, false, List, [], ◌∷◌, ◌++◌, length, get_or, take, drop, replicate, fold, sym, refl, ap, ◌∙◌, arith, lit<}
+use Rattle.std.proofs.lemmas.List.{drop_more, take_all, drop_all, get_or-take, length-replicate}
 use Rattle.std.proofs.lemmas.Bool.{cond-true, cond-false}
 use Rattle.intervals.specs.Conditions.{sound}
 use Rattle.intervals.specs.declared.interval.Interval.{Interval}
 use Rattle.intervals.specs.Intervals.{no_interval}
 use Rattle.peaks.specs.Ranks.{entered, falling}
 use Rattle.peaks.specs.Counts.{sound_counts, peak, spike_of}
-
--- one rank on: the ranks passed are settled, and what is carried is still to be entered among the others
-pub enter_more : (s hs : List ℕ) (x lower j higher rest : ℕ) → j < length hs → higher ≡ max lower (get_or hs j 0) → rest ≡ min lower (get_or hs j 0) → entered s x ≡ take j hs ++ entered (drop j hs) lower → entered s x ≡ take (j + 1) (set hs j higher) ++ entered (drop (j + 1) (set hs j higher)) rest
-enter_more s hs x lower j higher rest h p q e =
-    let l : j < j + 1 = omega arith in
-    rw (take_more_set hs j higher h, drop-set-lt (j + 1) hs j higher l, append_assoc, p, q) (e ∙ ap (λ ys. take j hs ++ entered ys lower) (drop_more hs j 0 h))
-
-pub enter_all : (s hs : List ℕ) (x lower j n : ℕ) → length hs ≡ n → n ≤ j → entered s x ≡ take j hs ++ entered (drop j hs) lower → hs ≡ take n (entered s x)
-enter_all s hs x lower j n k h e =
-    let long : length hs ≤ j = omega arith in
-    let w : entered s x ≡ hs ++ (lower ∷ []) = rw (take_all j hs long, drop_all j hs long) at e in
-    rw (w, take_at hs (lower ∷ []) n k)
 
 -- the ranks below the first n have no say in them
 take-entered : (n : ℕ) (ys : List ℕ) (x : ℕ) → take n (entered (take n ys) x) ≡ take n (entered ys x)

@@ -11,6 +11,7 @@ pub fn spike_of(day: &[Interval]) -> Option<u16>
     ensures highest { IfSome result (Highest day.now) }
     ensures ranked { Ranked (sound_counts day.now) }
 {
+    // the counts are counted while they are entered, so that the day is gone through once
     let mut highest = [0u16; 6];
     let mut sound_places = 0usize;
     for interval in day {
@@ -26,10 +27,7 @@ pub fn spike_of(day: &[Interval]) -> Option<u16>
 pub fn shows_spike(interval: Interval, spike: Option<u16>) -> bool
     ensures { result ≡ shows spike interval }
 {
-    match spike {
-        Some(count) => interval.condition.is_sound() && interval.pulses == count,
-        None => false,
-    }
+    spike.is_some_and(|count| interval.condition.is_sound() && interval.pulses == count)
 }
 
 // Enters a count among the highest, which fall from first to last, and lets go of the lowest.
@@ -49,9 +47,5 @@ fn peak_of(counts: usize, highest: u16, sixth: u16) -> Option<u16>
     ensures { result ≡ peak counts highest sixth }
 {
     let rise = 5 * u32::from(highest.saturating_sub(sixth));
-    if counts >= 6 && highest > 10 && rise > 9 * u32::from(sixth) {
-        Some(highest)
-    } else {
-        None
-    }
+    (counts >= 6 && highest > 10 && rise > 9 * u32::from(sixth)).then_some(highest)
 }

@@ -1,2 +1,2 @@
-mod Sheets
 mod Averaged
+mod Newest

@@ -1,5 +1,4 @@
 pub mod Codes
-pub mod Lengths
 pub mod Meanings
 pub mod PastDays
 pub mod Averages

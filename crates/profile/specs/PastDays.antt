@@ -1,5 +1,6 @@
 -- The days before the cycle that a place may be weighed by, and when a sheet of them is taken.
-use Rattle.std.specs.Prelude.{ℕ, ◌*◌, Bool, true, cond, ◌&&◌, List, [], ◌∷◌, length, Ok, Err, Result, ◌==◌, nat_le, nat_lt}
+use Rattle.std.specs.Prelude.{ℕ, ◌*◌, Bool, cond, ◌&&◌, List, length, Ok, Err, Result, ◌==◌, nat_le, nat_lt}
+use Rattle.std.specs.List.{list_all}
 use Rattle.fault.specs.declared.record.Fault.{Fault}
 use Rattle.fault.specs.declared.refusal.Refusal.TheVariants.{ReferenceDaysUnfit}
 use Rattle.fault.specs.Faults.{fault_at}
@@ -18,8 +19,7 @@ pub record PastDays : Type 0 where
 
 -- each count is one that a place may have
 abbrev pub counts_kept : List ℕ → Bool
-counts_kept [] = true
-counts_kept (c ∷ cs) = nat_le c 65535 && counts_kept cs
+counts_kept cs = list_all (λ c. nat_le c 65535) cs
 
 abbrev pub fit : PastDays → Bool
 fit d = nat_lt d.first_weekday 7 && (places_a_day_known d.places_a_day && (nat_le d.days 90 && (length d.counts == d.days * d.places_a_day && (length d.marks == d.days && counts_kept d.counts))))

@@ -3,13 +3,13 @@ use Rattle.std.specs.Result.{result_map_both}
 use Rattle.std.specs.Prelude.{Result}
 use Rattle.fault.specs.declared.record.Fault.{Fault}
 use Rattle.profile.specs.declared.reference_days.ReferenceDays.{ReferenceDays}
-use Rattle.profile.specs.Lengths as lengths
+use Rattle.constants.specs.Lengths.{places_of}
 use Rattle.profile.specs.PastDays.{PastDays}
 
 abbrev pub past_days_of : ReferenceDays → PastDays
 past_days_of r = record {
   first_weekday = r.first_weekday;
-  places_a_day = lengths.places_a_day r.length;
+  places_a_day = places_of r.interval;
   days = r.days;
   counts = r.counts.now;
   marks = r.marks.now;

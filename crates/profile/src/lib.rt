@@ -3,7 +3,6 @@
 #![tactic(auto)]
 
 pub mod flat;
-mod interval_length;
 pub mod method;
 pub mod pair;
 pub mod reference_days;

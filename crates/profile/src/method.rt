@@ -4,19 +4,15 @@ ghost use Rattle.profile.specs.Codes.{method_code};
 
 #[derive(Clone, Copy)]
 pub enum Method {
-    Flat,
-    StraightLine,
-    ReferenceDays,
+    Flat = 1,
+    StraightLine = 2,
+    ReferenceDays = 3,
 }
 
 impl Method {
     pub fn code(self) -> u8
         ensures { result ≡ method_code self }
     {
-        match self {
-            Method::Flat => 1,
-            Method::StraightLine => 2,
-            Method::ReferenceDays => 3,
-        }
+        self as u8
     }
 }

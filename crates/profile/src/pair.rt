@@ -18,9 +18,8 @@ impl<P: Profile, Q: Profile> Profile for Pair<P, Q> {
         ensures answer { result ≡ pair_weight (P.Profile.meaning self.now.first place) (Q.Profile.meaning self.now.second place) }
         ensures some { is_some result ≡ (is_some (P.Profile.meaning self.now.first place) || is_some (Q.Profile.meaning self.now.second place)) }
     {
-        match self.first.weight(place) {
-            Some(answer) => Some(answer),
-            None => self.second.weight(place),
-        }
+        self.first
+            .weight(place)
+            .or_else(|| self.second.weight(place))
     }
 }

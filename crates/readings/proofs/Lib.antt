@@ -1,5 +1,3 @@
 pub mod Counting
 pub mod Covering
-pub mod Entered
-pub mod Pushing
 pub mod Rolling

@@ -28,18 +28,12 @@ const OVERFLOW: Interval = Interval {
     condition: Condition::Overflow,
 };
 
-// The first place that a rule questions, and how many.
-fn questioned<R: Rule>(rule: &R, held: &Held<'_>) -> (usize, usize) {
+// The first place that a rule questions, if there is one, and how many.
+fn questioned<R: Rule>(rule: &R, held: &Held<'_>) -> (Option<usize>, usize) {
     let mut answers = [false; 200];
     rule.ask_all(held, &mut answers);
-    let mut first = 200;
-    let mut count = 0usize;
-    for (place, answer) in answers.iter().enumerate() {
-        if *answer {
-            first = first.min(place);
-            count = count.saturating_add(1);
-        }
-    }
+    let first = answers.iter().position(|answer| *answer);
+    let count = answers.iter().filter(|answer| **answer).count();
     (first, count)
 }
 
@@ -63,11 +57,11 @@ fn check_day(rt: &impl Abort, cycle: Cycle, intervals: &[Interval], spike: usize
         intervals,
         readings: &readings,
     };
-    assert_eq!(rt; questioned(&SpikeCheck, &held), (spike, 1));
-    assert_eq!(rt; questioned(&OverflowCheck, &held), (overflow, 1));
-    assert_eq!(rt; questioned(&TestModeCheck, &held), (200, 0));
-    assert_eq!(rt; questioned(&SumCheck, &held), (200, 0));
-    assert_eq!(rt; questioned(&HighLowCheck, &held), (200, 0));
+    assert_eq!(rt; questioned(&SpikeCheck, &held), (Some(spike), 1));
+    assert_eq!(rt; questioned(&OverflowCheck, &held), (Some(overflow), 1));
+    assert_eq!(rt; questioned(&TestModeCheck, &held), (None, 0));
+    assert_eq!(rt; questioned(&SumCheck, &held), (None, 0));
+    assert_eq!(rt; questioned(&HighLowCheck, &held), (None, 0));
 }
 
 #[test]
@@ -158,9 +152,9 @@ fn readings(rt: HostRuntime) -> Result<(), Fail> {
         intervals: &intervals,
         readings: &readings,
     };
-    assert_eq!(rt; questioned(&TestModeCheck, &held), (0, 1));
-    assert_eq!(rt; questioned(&HighLowCheck, &held), (0, 24));
-    assert_eq!(rt; questioned(&SumCheck, &held), (200, 0));
+    assert_eq!(rt; questioned(&TestModeCheck, &held), (Some(0), 1));
+    assert_eq!(rt; questioned(&HighLowCheck, &held), (Some(0), 24));
+    assert_eq!(rt; questioned(&SumCheck, &held), (None, 0));
     intervals[5] = Interval {
         pulses: 161,
         condition: Condition::Good,
@@ -172,6 +166,6 @@ fn readings(rt: HostRuntime) -> Result<(), Fail> {
         intervals: &intervals,
         readings: &readings,
     };
-    assert_eq!(rt; questioned(&SumCheck, &held), (2, 20));
+    assert_eq!(rt; questioned(&SumCheck, &held), (Some(2), 20));
     Ok(())
 }

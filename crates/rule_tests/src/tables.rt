@@ -4,19 +4,13 @@ use fault::Fault;
 use readings::Readings;
 use std::test::Fail;
 
-// The number of the refusal, 0 where there is none.
-fn refusal<T: Drop>(res: Result<T, Fault>) -> u8 {
-    match res {
-        Ok(_) => 0,
-        Err(fault) => fault.refusal.number(),
-    }
+// The number of the refusal, if there is one.
+fn refusal<T: Drop>(outcome: Result<T, Fault>) -> Option<u8> {
+    outcome.err().map(|fault| fault.refusal.number())
 }
 
-fn places(days: u32, places_a_day: u32) -> usize {
-    match Cycle::new(days, places_a_day, 0) {
-        Ok(cycle) => cycle.places(),
-        Err(_) => 0,
-    }
+fn places(days: u32, places_a_day: u32) -> Result<usize, Fault> {
+    Ok(Cycle::new(days, places_a_day, 0)?.places())
 }
 
 // Two readings, each a boundary and what the register showed.
@@ -35,11 +29,12 @@ fn region(table: &Readings, region: usize, cycle: &Cycle) -> (usize, usize) {
 }
 
 #[test]
-fn cycles_of_each_length(rt: HostRuntime) {
+fn cycles_of_each_length(rt: HostRuntime) -> Result<(), Fail> {
     assert_eq!(rt;
-        (places(1, 24), places(30, 48), places(31, 96)),
+        (places(1, 24)?, places(30, 48)?, places(31, 96)?),
         (24, 1440, 2976)
     );
+    Ok(())
 }
 
 #[test]
@@ -53,7 +48,7 @@ fn readings_refused_in_order(rt: HostRuntime) -> Result<(), Fail> {
         table = table.entered(boundary, 9_999, &cycle, &register)?;
     }
     let full = refusal(table.entered(31, 10_000, &cycle, &register));
-    assert_eq!(rt; (full, past, beyond), (12, 13, 14));
+    assert_eq!(rt; (full, past, beyond), (Some(12), Some(13), Some(14)));
     Ok(())
 }
 
@@ -62,7 +57,10 @@ fn register_rolls_over(rt: HostRuntime) -> Result<(), Fail> {
     let cycle = Cycle::new(1, 24, 0)?;
     let register = Register::new(5, 10)?;
     let table = two((3, 99_968), (20, 294), &cycle, &register)?;
-    assert_eq!(rt; refusal(two((3, 99_968), (3, 294), &cycle, &register)), 13);
+    assert_eq!(rt;
+        refusal(two((3, 99_968), (3, 294), &cycle, &register)),
+        Some(13)
+    );
     assert_eq!(rt;
         (table.advance(0, &register), table.advance(1, &register)),
         (0, 326)

@@ -20,23 +20,13 @@ fn four_weeks() -> [u32; 672] {
 // Whether those days, marked so, weigh a place by the answer.
 fn weighs(first_weekday: u32, marks: [u8; 28], place: usize, answer: Option<(u16, u8)>) -> bool {
     let counts = four_weeks();
-    match ReferenceDays::new(first_weekday, 24, 28, &counts, &marks) {
-        Ok(days) => days.weight(place) == answer,
-        Err(_) => false,
-    }
+    let days = ReferenceDays::new(first_weekday, 24, 28, &counts, &marks);
+    days.is_ok_and(|days| days.weight(place) == answer)
 }
 
-fn is_unfit<'a>(
-    first_weekday: u32,
-    places: u32,
-    days: u32,
-    counts: &'a [u32],
-    marks: &'a [u8],
-) -> bool {
-    match ReferenceDays::new(first_weekday, places, days, counts, marks) {
-        Ok(_) => false,
-        Err(fault) => fault == Fault::at(Refusal::ReferenceDaysUnfit, 0),
-    }
+fn is_unfit(first_weekday: u32, places: u32, days: u32, counts: &[u32], marks: &[u8]) -> bool {
+    let made = ReferenceDays::new(first_weekday, places, days, counts, marks);
+    made.err() == Some(Fault::at(Refusal::ReferenceDaysUnfit, 0))
 }
 
 #[test]
@@ -78,9 +68,7 @@ fn weekdays(rt: HostRuntime) {
 
 #[test]
 fn pair_falls_through(rt: HostRuntime) -> Result<(), Fail> {
-    let Ok(days) = ReferenceDays::new(0, 24, 0, &[], &[]) else {
-        return Err(Fail::new("no days"));
-    };
+    let days = ReferenceDays::new(0, 24, 0, &[], &[])?;
     let pair = Pair {
         first: days,
         second: Flat,

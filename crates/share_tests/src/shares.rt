@@ -58,10 +58,9 @@ fn every_pulse_is_shared(rt: HostRuntime) {
         (Ok(()), [7, 2, 7, 8])
     );
     let (_, values) = outcome(&Flat, 0, [OPEN; 21], 200, [0; 21]);
-    let mut total = 0u32;
-    for value in values {
-        total = total.wrapping_add(value);
-    }
+    let total = values
+        .iter()
+        .fold(0u32, |total, value| total.wrapping_add(*value));
     assert_eq!(rt; total, 200);
     assert_eq!(rt; 21 * (200 / 21), 189);
 }

@@ -1,4 +1,2 @@
 pub mod Running
 pub mod Places
-pub mod Turns
-pub mod Accepted

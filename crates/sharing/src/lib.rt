@@ -3,8 +3,9 @@
 #![tactic(auto)]
 
 pub mod estimate;
+mod part;
+mod spread;
 pub mod state;
-mod weighing;
 
 pub use estimate::share;
 pub use state::{State, Status};

@@ -17,13 +17,9 @@ pub struct SpikeCheck;
 impl Rule for SpikeCheck {
     const NUMBER: u8 = 3;
 
-    ghost number = { 3 };
+    ghost NUMBER = { 3 };
 
     ghost meaning = { λ _. spike_questions };
-
-    fn bit() -> u8 {
-        Self::NUMBER
-    }
 
     fn asks(&self, held: &Held<'_>, place: usize) -> bool {
         shows_at(held, place, spike_from(held, midnight_before(held, place)))
@@ -34,15 +30,12 @@ impl Rule for SpikeCheck {
         ensures filled { answers.new ≡ each (length answers.old) (spike_questions (data_of held.now)) }
         ensures highest { (i : ℕ) → spike_questions (data_of held.now) i ≡ true → HighestOfDay (data_of held.now) i }
     {
-        let mut day = 0;
-        let mut spike = spike_from(held, day);
-        for place in 0..answers.len() {
-            let start = midnight_before(held, place);
-            if start != day {
-                day = start;
-                spike = spike_from(held, day);
+        let mut spike = None;
+        for (place, answer) in answers.iter_mut().enumerate() {
+            if place.is_multiple_of(held.cycle.places_a_day) {
+                spike = spike_from(held, place);
             }
-            answers[place] = shows_at(held, place, spike);
+            *answer = shows_at(held, place, spike);
         }
     }
 }
@@ -65,13 +58,13 @@ fn spike_from(held: &Held<'_>, start: usize) -> Option<u16>
 fn stretch(intervals: &[Interval], start: usize, count: usize) -> &[Interval]
     ensures { result.now ≡ take count (drop start intervals.now) }
 {
-    let from = start.min(intervals.len());
-    let taken = count.min(intervals.len() - from);
-    &intervals[from..from + taken]
+    let rest = intervals.get(start..).unwrap_or(&[]);
+    rest.get(..count).unwrap_or(rest)
 }
 
 fn shows_at(held: &Held<'_>, place: usize, spike: Option<u16>) -> bool
     ensures { result ≡ (in_cycle (data_of held.now) place && shows spike (interval_at (data_of held.now) place)) }
 {
-    place < held.intervals.len() && shows_spike(held.intervals[place], spike)
+    held.interval(place)
+        .is_some_and(|interval| shows_spike(interval, spike))
 }

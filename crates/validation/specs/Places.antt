@@ -1,11 +1,7 @@
--- Answers place by place, and how far numbers are apart.
-use Rattle.std.specs.Prelude.{ℕ, ◌+◌, ◌-◌, List, map}
+-- Answers place by place.
+use Rattle.std.specs.Prelude.{ℕ, List, map}
 use Rattle.std.specs.List.{range_with_len}
 
 -- what f says of each of the places 0 to n - 1, in order
 abbrev pub each : {X : Type 0} → ℕ → (ℕ → X) → List X
 each n f = map f (range_with_len 0 n)
-
--- how far two numbers are apart
-abbrev pub apart : ℕ → ℕ → ℕ
-apart a b = (a - b) + (b - a)

@@ -1,12 +1,23 @@
 // The two rules that go by what the meter said of a count.
-ghost use Rattle.std.specs.Prelude.{◌≡◌};
+ghost use Rattle.std.specs.Prelude.{ℕ};
+ghost use Rattle.intervals.specs.declared.condition.Condition.{Condition};
 ghost use Rattle.intervals.specs.declared.condition.Condition.TheVariants.{Overflow, TestMode};
-ghost use Rattle.held.specs.DataOf.{data_of};
 ghost use Rattle.validation.specs.Conditions.{condition_questions};
 
 use crate::rule::Rule;
 use held::Held;
 use intervals::Condition;
+
+// A rule that questions the places of one condition.
+pub trait ConditionCheck {
+    const RULE_NUMBER: u8;
+
+    ghost RULE_NUMBER: { ℕ };
+
+    const CONDITION: Condition;
+
+    ghost CONDITION: { Condition };
+}
 
 #[derive(Clone, Copy)]
 pub struct OverflowCheck;
@@ -14,40 +25,35 @@ pub struct OverflowCheck;
 #[derive(Clone, Copy)]
 pub struct TestModeCheck;
 
-impl Rule for OverflowCheck {
-    const NUMBER: u8 = 0;
+impl ConditionCheck for OverflowCheck {
+    const RULE_NUMBER: u8 = 0;
 
-    ghost number = { 0 };
+    ghost RULE_NUMBER = { 0 };
 
-    ghost meaning = { λ _. condition_questions Overflow };
+    const CONDITION: Condition = Condition::Overflow;
 
-    fn bit() -> u8 {
-        Self::NUMBER
-    }
-
-    fn asks(&self, held: &Held<'_>, place: usize) -> bool {
-        has_condition(held, place, Condition::Overflow)
-    }
+    ghost CONDITION = { Overflow };
 }
 
-impl Rule for TestModeCheck {
-    const NUMBER: u8 = 1;
+impl ConditionCheck for TestModeCheck {
+    const RULE_NUMBER: u8 = 1;
 
-    ghost number = { 1 };
+    ghost RULE_NUMBER = { 1 };
 
-    ghost meaning = { λ _. condition_questions TestMode };
+    const CONDITION: Condition = Condition::TestMode;
 
-    fn bit() -> u8 {
-        Self::NUMBER
-    }
-
-    fn asks(&self, held: &Held<'_>, place: usize) -> bool {
-        has_condition(held, place, Condition::TestMode)
-    }
+    ghost CONDITION = { TestMode };
 }
 
-fn has_condition(held: &Held<'_>, place: usize, condition: Condition) -> bool
-    ensures { result ≡ condition_questions condition (data_of held.now) place }
-{
-    place < held.intervals.len() && held.intervals[place].condition == condition
+impl<C: ConditionCheck> Rule for C {
+    const NUMBER: u8 = C::RULE_NUMBER;
+
+    ghost NUMBER = { C.RULE_NUMBER };
+
+    ghost meaning = { λ _. condition_questions C.CONDITION };
+
+    fn asks(&self, held: &Held<'_>, place: usize) -> bool {
+        held.interval(place)
+            .is_some_and(|interval| interval.condition == C::CONDITION)
+    }
 }

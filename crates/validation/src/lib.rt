@@ -3,10 +3,9 @@
 #![tactic(auto)]
 
 pub mod conditions;
-pub mod places;
 pub mod rule;
 pub mod sum;
 
-pub use conditions::{OverflowCheck, TestModeCheck};
+pub use conditions::{ConditionCheck, OverflowCheck, TestModeCheck};
 pub use rule::Rule;
 pub use sum::SumCheck;

@@ -10,24 +10,22 @@ pub trait Rule {
     // The rule's own number: the bit that it sets at a place.
     const NUMBER: u8;
 
-    ghost number: { ℕ };
+    ghost NUMBER: { ℕ };
 
     // Whether the rule questions a place of the data held.
     ghost meaning: { Self → HeldData → ℕ → Bool };
-
-    fn bit() -> u8
-        ensures { result ≡ number };
 
     fn asks(&self, held: &Held<'_>, place: usize) -> bool
         ensures value { result ≡ meaning self.now (data_of held.now) place }
         ensures past { places (data_of held.now) ≤ place → result ≡ false };
 
     // Asks of every place at once: what `asks` says of place i goes to index i.
+    #[tactic(auto, using(crate::proofs::Filled::filling))]
     fn ask_all(&self, held: &Held<'_>, answers: &mut [bool])
         ensures filled { answers.new ≡ each (length answers.old) (meaning self.now (data_of held.now)) }
     {
-        for place in 0..answers.len() {
-            answers[place] = self.asks(held, place);
+        for (place, answer) in answers.iter_mut().enumerate() {
+            *answer = self.asks(held, place);
         }
     }
 }

@@ -4,7 +4,6 @@ ghost use Rattle.held.specs.DataOf.{data_of};
 ghost use Rattle.validation.specs.Places.{each};
 ghost use Rattle.validation.specs.Sums.{all_sound, total_pulses, beyond_allowed, region_questioned, sum_questions, AlikeInRegion};
 
-use crate::places::in_cycle;
 use crate::rule::Rule;
 use held::Held;
 use intervals::Interval;
@@ -15,20 +14,12 @@ pub struct SumCheck;
 impl Rule for SumCheck {
     const NUMBER: u8 = 2;
 
-    ghost number = { 2 };
+    ghost NUMBER = { 2 };
 
     ghost meaning = { λ _. sum_questions };
 
-    fn bit() -> u8 {
-        Self::NUMBER
-    }
-
     fn asks(&self, held: &Held<'_>, place: usize) -> bool {
-        in_cycle(
-            held,
-            place,
-            is_region_questioned(held, held.readings.region_of(place)),
-        )
+        held.has_place(place) && is_region_questioned(held, held.readings.region_of(place))
     }
 
     // Adds each region up once. All places of a region get one answer.
@@ -39,13 +30,13 @@ impl Rule for SumCheck {
         let mut questioned = false;
         // where the region at hand ends
         let mut end = 0;
-        for place in 0..answers.len() {
+        for (place, answer) in answers.iter_mut().enumerate() {
             if place == end {
                 let region = held.readings.region_of(place);
                 questioned = is_region_questioned(held, region);
-                end = held.readings.region_end(region, &held.cycle);
+                end = held.region_end(region);
             }
-            answers[place] = in_cycle(held, place, questioned);
+            *answer = held.has_place(place) && questioned;
         }
     }
 }
@@ -54,39 +45,30 @@ fn is_region_questioned(held: &Held<'_>, region: usize) -> bool
     ensures { result ≡ region_questioned (data_of held.now) region }
 {
     let intervals = held.region_intervals(region);
-    let units = held.readings.advance(region, &held.register);
+    let pulses_per_unit = held.register.pulses_per_unit;
     let allowed = held.readings.allowed_units(region);
-    held.readings.is_inner(region)
-        && all_sound(intervals)
-        && is_beyond_allowed(
-            held.register.pulses_per_unit,
-            units,
-            allowed,
-            total_pulses(intervals),
-        )
+    held.advance(region).is_some_and(|units| {
+        all_sound(intervals)
+            && is_beyond_allowed(pulses_per_unit, units, allowed, total_pulses(intervals))
+    })
 }
 
 fn all_sound(intervals: &[Interval]) -> bool
     ensures { result ≡ all_sound intervals.now }
 {
-    for interval in intervals {
-        if !interval.condition.is_sound() {
-            return false;
-        }
-    }
-    true
+    intervals
+        .iter()
+        .all(|interval| interval.condition.is_sound())
 }
 
 fn total_pulses(intervals: &[Interval]) -> u32
     requires { length intervals.now ≤ 2976 }
     ensures { result ≡ total_pulses intervals.now }
 {
-    let mut total = 0u32;
-    for interval in intervals {
-        let count = interval.pulses;
-        total += u32::from(count);
-    }
-    total
+    intervals
+        .iter()
+        .map(|interval| u32::from(interval.pulses))
+        .sum()
 }
 
 fn is_beyond_allowed(pulses_per_unit: u16, units: u32, allowed: u32, pulses: u32) -> bool

@@ -1,9 +1,10 @@
 // Places and regions of the data held, where the intervals fill the cycle and no boundary passes its end.
 ghost use Rattle.std.specs.Prelude.{◌≡◌, ◌≤◌, length};
+ghost use Rattle.std.specs.List.{slice_get};
 ghost use Rattle.held.specs.HeldData.{places, in_cycle};
 ghost use Rattle.held.specs.DataOf.{data_of};
-ghost use Rattle.readings.specs.Regions.{region_start, region_end};
-ghost use Rattle.held.specs.RegionData.{region_intervals};
+ghost use Rattle.readings.specs.Regions.{region_end};
+ghost use Rattle.held.specs.RegionData.{region_intervals, advance_of};
 ghost use Rattle.readings.specs.Laws.{Ordered};
 
 use crate::view::Held;
@@ -25,13 +26,14 @@ impl<'a> Held<'a> {
         place < self.places()
     }
 
-    pub(crate) fn region_start(&self, region: usize) -> usize
-        ensures { result ≡ region_start (data_of self.now).readings region }
+    // The interval of a place, if the cycle has one of this number.
+    pub fn interval(&self, place: usize) -> Option<Interval>
+        ensures { result ≡ slice_get (data_of self.now).intervals place }
     {
-        self.readings.region_start(region)
+        self.intervals.get(place).copied()
     }
 
-    pub(crate) fn region_end(&self, region: usize) -> usize
+    pub fn region_end(&self, region: usize) -> usize
         ensures place { result ≡ region_end (places (data_of self.now)) (data_of self.now).readings region }
         ensures ordered { Ordered (places (data_of self.now)) (data_of self.now).readings region }
         ensures inside { result ≤ length (data_of self.now).intervals }
@@ -40,10 +42,18 @@ impl<'a> Held<'a> {
     }
 
     pub fn region_intervals(&self, region: usize) -> &'a [Interval]
-        ensures { result.now ≡ region_intervals (data_of self.now) region }
+        ensures intervals { result.now ≡ region_intervals (data_of self.now) region }
+        ensures few { length result.now ≤ 2976 }
     {
-        let start = self.region_start(region);
-        let end = self.region_end(region);
-        &self.intervals[start..end]
+        let start = self.readings.region_start(region);
+        &self.intervals[start..self.region_end(region)]
+    }
+
+    // How far the register went over a region, in units, if it has a reading on both sides.
+    pub fn advance(&self, region: usize) -> Option<u32>
+        ensures { result ≡ advance_of (data_of self.now) region }
+    {
+        let units = self.readings.advance(region, &self.register);
+        self.readings.is_inner(region).then_some(units)
     }
 }

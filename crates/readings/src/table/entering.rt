@@ -30,7 +30,7 @@ impl Readings {
         ensures value { result.now ≡ rows self.now }
         ensures few { length result.now ≤ 32 }
     {
-        &self.entries[0..self.count]
+        &self.entries[..self.count]
     }
 
     pub(crate) fn len(&self) -> usize
@@ -40,20 +40,12 @@ impl Readings {
         self.as_slice().len()
     }
 
-    pub(crate) fn get(&self, index: usize) -> Option<Reading>
-        ensures { result ≡ slice_get (rows self.now) index }
-    {
-        self.as_slice().get(index).copied()
-    }
-
     // Whether a boundary is above the last one.
     fn rises_to(&self, boundary: u32) -> bool
         ensures { result ≡ above_last (rows self.now) boundary }
     {
-        match self.as_slice() {
-            [] => true,
-            [.., last] => u32::from(last.boundary) < boundary,
-        }
+        let last = self.as_slice().last();
+        last.is_none_or(|reading| u32::from(reading.boundary) < boundary)
     }
 
     fn pushed(self, reading: Reading) -> Readings
@@ -81,13 +73,13 @@ impl Readings {
         ensures kept { IfOk result (λ t. Kept (cycle_places cycle.now) register.now.dials (rows self) (rows t)) }
     {
         if self.len() >= MOST_READINGS {
-            return Err(Fault::at(Refusal::ReadingsFull, 0));
+            return Err(Refusal::ReadingsFull.into());
         }
         if boundary as usize > cycle.places() || !self.rises_to(boundary) {
-            return Err(Fault::at(Refusal::BoundaryNotRising, 0));
+            return Err(Refusal::BoundaryNotRising.into());
         }
         if reading >= register.modulus() {
-            return Err(Fault::at(Refusal::ReadingBeyondDials, 0));
+            return Err(Refusal::ReadingBeyondDials.into());
         }
         Ok(self.pushed(Reading {
             boundary: boundary as u16,

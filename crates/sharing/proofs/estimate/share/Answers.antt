@@ -1,16 +1,9 @@
-use Rattle.std.proofs.Common.{◌≡◌, ◌<◌, ◌⊎◌, sym, inl, inr, ⊎_elim, arith}
-use Rattle.sharing.proofs.Accepted.{accepted, written_accepted}
+use Rattle.std.proofs.Common.{arith}
+use Rattle.std.proofs.lemmas.Grind.{common_steps}
+use Rattle.sharing.proofs.Places.{shared_values}
 use Rattle.sharing.proofs.estimate.share.Goals as goal
 
-pub returns : goal.returns
-returns g c =
+pub returns-clause-exact : goal.returns-clause-exact
+returns-clause-exact g c =
     let P = g.P.Profile.meaning c.args.profile.now in
-    let first = c.args.first in
-    let ss = c.args.states.now in
-    let X = c.args.amount in
-    let vs = c.args.values.now in
-    let whole = c.in_ok-whole.whole in
-    let bears : (0 < whole) ⊎ (X ≡ 0) = ⊎_elim (λ none. inr none.1) (λ some. inl (omega (arith, some))) c.else-whole-eq0.either in
-    let ok = accepted P first ss X vs whole (omega arith) (omega arith) c.in_ok-whole.ensures.weight bears in
-    let after = written_accepted P first ss X vs c.write_shares.new.values ok c.write_shares.ensures in
-    record { outcome = sym ok; written = after.0; exact = after.1 }
+    shared_values P c.args.first c.args.states.now c.args.amount c.args.values.now c.write_shares.new.values (grind (arith, common_steps)) (grind (arith, common_steps)) (grind (arith, common_steps))

@@ -1,26 +1,20 @@
-use Rattle.std.proofs.Common.{sym, ap, ◌∙◌, inl, inr, arith}
-use Rattle.profile.specs.Averages.{similar}
+use Rattle.std.proofs.Common.{length, rules, tests, arith}
+use Rattle.std.proofs.lemmas.Iterator.Consumers.{YieldsList-turn, YieldsList-end}
+use Rattle.profile.specs.Averages.{weekday_at, similar, count_on, time_of_day}
 use Rattle.profile.specs.PastDaysOf.{past_days_of}
-use Rattle.profile.proofs.Sheets.{sofar_none, sofar_no, sofar_yes, sofar_all}
+use Rattle.profile.proofs.Newest.{newest_given, newest_within, tallied}
 use Rattle.profile.proofs.reference_days.ReferenceDays.newest.Goals as goal
-use Rattle.profile.proofs.reference_days.ReferenceDays.newest.Goals.{then-is_similar, else-is_similar}
 
-pub loop-day-init : goal.loop-day-init
-loop-day-init c = sofar_none _ _ _
+pub count_on-total-requires : goal.count_on-total-requires
+count_on-total-requires c =
+    let d = past_days_of c.args.self.now
+    in let p = similar d (weekday_at d c.args.place)
+    in let turn = YieldsList-turn (newest_given _ p d.days c.filter.ensures.source c.filter.ensures.closure (λ x b q k. search (rules, tests)) c.take-newest_days.ensures.source c.take-newest_days.ensures.count c.into_iter-day-iterator.ensures.into_iter_gives) c.loop-day.yielded _ c.loop-day.yielded_by _ _ _ c.in-Some.is c.next.ensures.steps
+    in omega (arith, turn.1, newest_within p d.days (length c.loop-day.yielded) c.in-Some.day turn.0)
 
-pub overflow_add-total : goal.overflow_add-total
-overflow_add-total c = omega (arith, c.loop-day.invariant.small, c.loop-day.invariant.few)
-
-pub loop-day-preserved : goal.loop-day-preserved
-loop-day-preserved c =
-    let same = c.is_similar.ensures ∙ ap (λ w. similar (past_days_of c.args.self.now) w c.loop-day.day) c.weekday_at-weekday.ensures
-    in elim c.if-is_similar.branch [
-      | then-is_similar w ↦ rw (w.total-is, w.found-is) (sofar_yes _ _ _ _ _ _ _ c.loop-day.invariant c.loop-day-test.true (sym same ∙ w.if-is_similar.true) c.if-found-eq-MOST_AVERAGED.false (w.from-total.ensures ∙ w.count_on.ensures) (omega (arith, w.from-total.ensures, w.count_on.type_inv)))
-      | else-is_similar w ↦ rw (w.total-is, w.found-is) (sofar_no _ _ _ _ _ _ c.loop-day.invariant c.loop-day-test.true (sym same ∙ w.if-is_similar.false))
-    ]
-
-pub returns-after-loop-day : goal.returns-after-loop-day
-returns-after-loop-day c = sofar_all _ _ _ _ _ _ c.loop-day.invariant (inl c.loop-day-test.false)
-
-pub returns-then-found-eq-MOST_AVERAGED : goal.returns-then-found-eq-MOST_AVERAGED
-returns-then-found-eq-MOST_AVERAGED c = sofar_all _ _ _ _ _ _ c.loop-day.invariant (inr c.if-found-eq-MOST_AVERAGED.true)
+pub returns-clause-counts : goal.returns-clause-counts
+returns-clause-counts c =
+    let d = past_days_of c.args.self.now
+    in let p = similar d (weekday_at d c.args.place)
+    in let all = YieldsList-end (newest_given _ p d.days c.filter.ensures.source c.filter.ensures.closure (λ x b q k. search (rules, tests)) c.take-newest_days.ensures.source c.take-newest_days.ensures.count c.into_iter-day-iterator.ensures.into_iter_gives) c.loop-day.yielded _ c.loop-day.yielded_by _ _ c.in-None.is c.next.ensures.steps
+    in tallied (count_on d (time_of_day d c.args.place)) c.loop-day.yielded _ _ _ all.0 c.loop-day.invariant.sums c.loop-day.invariant.finds

@@ -1,10 +1,10 @@
-use Rattle.std.proofs.Common.{◌≡◌}
+use Rattle.std.proofs.Common.{◌≡◌, ◌≢◌, ◌%◌, take}
 use Rattle.held.specs.DataOf.{data_of}
-use Rattle.usage_rules.specs.Spikes.{spike_from, spike_questions}
-use Rattle.validation.proofs.Filled.{Filled}
+use Rattle.validation.specs.Places.{each}
+use Rattle.usage_rules.specs.Spikes.{midnight, spike_from, spike_questions}
 use Rattle.usage_rules.proofs.spike.SpikeCheckRule.ask_all.Given as goal
 
--- the answers so far stand, and the spike at hand is that of the day at hand
+-- the answers so far stand, and unless a day begins here the spike at hand is that of the day
 abbrev pub invariant-loop-place : goal.invariant-loop-place
 invariant-loop-place l =
-    Filled (spike_questions (data_of l.held)) l.answers l.place × (l.spike ≡ spike_from (data_of l.held) l.day)
+    (take l.place l.answers ≡ each l.place (spike_questions (data_of l.held))) × (l.place % l.held.cycle.places_a_day ≢ 0 → l.spike ≡ spike_from (data_of l.held) (midnight (data_of l.held) l.place))
