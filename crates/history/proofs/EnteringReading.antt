@@ -4,7 +4,7 @@ use Rattle.std.proofs.lemmas.Bool.{ltb-false, not-false, or_parts}
 use Rattle.fault.specs.declared.refusal.Refusal.TheVariants.{BookPosted, ReadingsFull, BoundaryNotRising}
 use Rattle.readings.specs.declared.reading.Reading.{Reading}
 use Rattle.readings.specs.Entering.{above_last}
-use Rattle.history.proofs.Pushing.{rising_push, within_push}
+use Rattle.readings.proofs.Pushing.{rising_push, within_push}
 use Rattle.history.specs.Answers.{refusal, when}
 use Rattle.history.specs.Calls.{reading, entered}
 use Rattle.history.specs.Model.{Model, places}

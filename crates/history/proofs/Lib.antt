@@ -5,7 +5,6 @@ pub mod Unestimated
 pub mod Raw
 pub mod New
 pub mod Delivering
-pub mod Pushing
 pub mod EnteringReading
 pub mod Ruling
 pub mod Changed

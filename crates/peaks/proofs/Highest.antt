@@ -1,12 +1,12 @@
 -- The six highest of a row of counts, kept while the row is gone through.
 use Rattle.std.proofs.Common.{◌≡◌, ℕ, zero, suc, ◌+◌, ◌<◌, ◌≤◌, min, max, true, false, List, [], ◌∷◌, ◌++◌, length, get_or, take, drop, replicate, fold, sym, refl, ap, ◌∙◌, arith, lit<}
-use Rattle.std.proofs.lemmas.List.{drop_more, take_all, drop_all, get_or-take, length-replicate}
-use Rattle.std.proofs.lemmas.Bool.{cond-true, cond-false}
+use Rattle.std.proofs.lemmas.List.{take_all, drop_all, get_or-take, length-replicate}
 use Rattle.intervals.specs.Conditions.{sound}
 use Rattle.intervals.specs.declared.interval.Interval.{Interval}
 use Rattle.intervals.specs.Intervals.{no_interval}
 use Rattle.peaks.specs.Ranks.{entered, falling}
 use Rattle.peaks.specs.Counts.{sound_counts, peak, spike_of}
+use Rattle.std.proofs.lemmas.Grind.{common_steps}
 
 -- the ranks below the first n have no say in them
 take-entered : (n : ℕ) (ys : List ℕ) (x : ℕ) → take n (entered (take n ys) x) ≡ take n (entered ys x)
@@ -57,12 +57,6 @@ rank_is n k hs xs h e =
     e ∙ ap (λ ys. fold (kept n) ys xs) (sym all) ∙ take_folded n xs zeros ∙ ap (take n) (folded_past xs [] n) in
     rw (w, get_or-take n (falling xs ++ zeros) k 0 h) (get_or_past_zeros (falling xs) n k)
 
-sound_more : (day : List Interval) (i : ℕ) → i < length day → sound (get_or day i no_interval).condition ≡ true → sound_counts (drop i day) ≡ (get_or day i no_interval).pulses ∷ sound_counts (drop (i + 1) day)
-sound_more day i h s = ap sound_counts (drop_more day i no_interval h) ∙ cond-true _ _ _ s
-
-unsound_more : (day : List Interval) (i : ℕ) → i < length day → sound (get_or day i no_interval).condition ≡ false → sound_counts (drop i day) ≡ sound_counts (drop (i + 1) day)
-unsound_more day i h s = ap sound_counts (drop_more day i no_interval h) ∙ cond-false _ _ _ s
-
 -- the first i places of a day are gone through, with the ranks hs and m sound places: what is left, gone through from
 -- here, gives what the whole day gives
 abbrev pub Scanned : List Interval → ℕ → List ℕ → ℕ → Type 0
@@ -72,24 +66,10 @@ Scanned day i hs m =
     × (m + length (sound_counts (drop i day)) ≡ length (sound_counts day))
 
 pub scanned_sound : (day : List Interval) (i : ℕ) (hs ks : List ℕ) (m n : ℕ) → i < length day → true ≡ sound (get_or day i no_interval).condition → ks ≡ take (length hs) (entered hs (get_or day i no_interval).pulses) → length ks ≡ length hs → n ≡ m + 1 → Scanned day i hs m → Scanned day (i + 1) ks n
-scanned_sound day i hs ks m n h s e l p inv =
-    let more = sound_more day i h (sym s) in
-    let f : fold (kept 6) hs ((get_or day i no_interval).pulses ∷ sound_counts (drop (i + 1) day)) ≡ fold (kept 6) (replicate 6 0) (sound_counts day) = rw more at inv.2 in
-    let t : ks ≡ kept 6 hs (get_or day i no_interval).pulses = e ∙ ap (λ k. take k (entered hs (get_or day i no_interval).pulses)) inv.0 in (
-      l ∙ inv.0,
-      omega (arith, inv.1),
-      ap (λ zs. fold (kept 6) zs (sound_counts (drop (i + 1) day))) t ∙ f,
-      omega (arith, inv.3, ap length more),
-    )
+scanned_sound day i hs ks m n h s e l p inv = grind (arith, common_steps)
 
 pub scanned_unsound : (day : List Interval) (i : ℕ) (hs ks : List ℕ) (m n : ℕ) → i < length day → false ≡ sound (get_or day i no_interval).condition → ks ≡ hs → n ≡ m → Scanned day i hs m → Scanned day (i + 1) ks n
-scanned_unsound day i hs ks m n h s e p inv =
-    let more = unsound_more day i h (sym s) in (
-      ap length e ∙ inv.0,
-      omega (arith, inv.1),
-      ap (λ zs. fold (kept 6) zs (sound_counts (drop (i + 1) day))) e ∙ ap (fold (kept 6) hs) (sym more) ∙ inv.2,
-      omega (arith, inv.3, ap length more),
-    )
+scanned_unsound day i hs ks m n h s e p inv = grind (arith, common_steps)
 
 pub scanned_all : (day : List Interval) (i : ℕ) (hs : List ℕ) (m : ℕ) → length day ≤ i → Scanned day i hs m → peak m (get_or hs 0 0) (get_or hs 5 0) ≡ spike_of day
 scanned_all day i hs m h inv =

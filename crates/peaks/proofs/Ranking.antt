@@ -1,11 +1,12 @@
 -- The n-th highest of a row is reached by n counts or more and passed by fewer than n.
-use Rattle.std.proofs.Common.{◌≡◌, ℕ, zero, suc, ◌+◌, ◌-◌, ◌<◌, ◌≤◌, min, max, true, cond, ◌&&◌, leb, List, [], ◌∷◌, length, get_or, IfSome, Some, None, fold, refl, ⊎_elim, add_comm, arith}
-use Rattle.std.proofs.lemmas.Bool.{cond-true, cond-false, cond_both, le-leb, lt-leb, leb-true, cases_lt, and_parts}
+use Rattle.std.proofs.Common.{◌≡◌, ℕ, zero, suc, ◌+◌, ◌-◌, ◌<◌, ◌≤◌, min, max, true, cond, leb, List, [], ◌∷◌, length, get_or, IfSome, fold, refl, ⊎_elim, arith}
+use Rattle.std.proofs.lemmas.Bool.{cond-true, cond-false, cond_both, le-leb, lt-leb, cases_lt}
 use Rattle.intervals.specs.Conditions.{sound}
 use Rattle.intervals.specs.declared.interval.Interval.{Interval}
 use Rattle.peaks.specs.Ranks.{entered, falling, nth_highest, at_least, Ranked}
 use Rattle.intervals.specs.Intervals.{no_interval}
-use Rattle.peaks.specs.Counts.{sound_counts, stands_out, peak, spike_of, Highest}
+use Rattle.peaks.specs.Counts.{sound_counts, peak, spike_of, Highest}
+use Rattle.std.proofs.lemmas.Grind.{common_steps}
 
 abbrev one : ℕ → ℕ → ℕ
 one t x = cond (leb t x) 1 0
@@ -20,11 +21,7 @@ one_most : (t x : ℕ) → one t x ≤ 1
 one_most t x = ⊎_elim (λ l. omega (arith, one_no t x l)) (λ l. omega (arith, one_yes t x l)) (cases_lt x t)
 
 one_both : (t x y : ℕ) → one t (max x y) + one t (min x y) ≡ one t x + one t y
-one_both t x y =
-    ⊎_elim
-    (λ l. let a : max x y ≡ y = omega arith in let b : min x y ≡ x = omega arith in rw (a, b) (add_comm (one t y) (one t x)))
-    (λ l. let a : max x y ≡ x = omega arith in let b : min x y ≡ y = omega arith in rw (a, b))
-    (cases_lt x y)
+one_both t x y = grind (arith, common_steps)
 
 -- entering a count adds that count alone
 at_least_entered : (t : ℕ) (ys : List ℕ) (x : ℕ) → at_least t (entered ys x) ≡ one t x + at_least t ys
@@ -113,8 +110,7 @@ counted (x ∷ xs) (suc k) t h s l =
     cond_both (sound x.condition) (x.pulses ∷ sound_counts xs) (sound_counts xs) (λ ys. 1 ≤ at_least t ys) (λ _. omega arith) (λ _. rest)
 
 peak_by : (n t s : ℕ) (P : ℕ → Type 0) → (6 ≤ n → P t) → IfSome (peak n t s) P
-peak_by n t s P h =
-    cond_both (leb 6 n && stands_out t s) (Some t) None (λ r. IfSome r P) (λ e. h (leb-true 6 n (and_parts _ _ e).0)) (λ _. tt)
+peak_by n t s P h = grind (arith, common_steps)
 
 -- a spike is the highest of its day's sound counts
 pub spike_highest : (day : List Interval) → IfSome (spike_of day) (Highest day)

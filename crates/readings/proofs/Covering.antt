@@ -1,12 +1,12 @@
 -- The regions of readings whose boundaries rise cover the cycle, each place once and in order.
-use Rattle.std.proofs.Common.{◌≡◌, ℕ, zero, suc, ◌+◌, ◌-◌, ◌<◌, ◌≤◌, eqb, ltb, List, [], ◌∷◌, length, get_or, sym, ap, ◌∙◌, ⊎_elim, arith}
-use Rattle.std.proofs.lemmas.List.{get_or_past}
+use Rattle.std.proofs.Common.{◌≡◌, ℕ, zero, suc, ◌-◌, ◌<◌, ◌≤◌, eqb, ltb, List, [], ◌∷◌, length, get_or, ⊎_elim, arith}
 use Rattle.std.proofs.lemmas.Bool.{cases_lt, cases_order, lt-ltb, le-ltb, ne_eqb, cond-true, cond-false}
 use Rattle.std.proofs.lemmas.Bool.Decides.{leb_tells}
 use Rattle.readings.specs.declared.reading.Reading.{Reading}
 use Rattle.readings.specs.Rising.{no_reading, Rising, Within}
 use Rattle.readings.specs.Regions.{region_count, region_start, region_end, region_at}
 use Rattle.readings.specs.Laws.{LiesIn, OnlyRegion, Ordered}
+use Rattle.std.proofs.lemmas.Grind.{common_steps}
 
 abbrev edge : List Reading → ℕ → ℕ
 edge rs j = (get_or rs j no_reading).boundary
@@ -78,24 +78,5 @@ region_covers n rs i up h = record {
   alone = λ j b l. same_region n rs i j up b l;
 }
 
-start_within : (n : ℕ) (rs : List Reading) (k : ℕ) → Within n rs → region_start rs k ≤ n
-start_within n rs zero w = omega arith
-start_within n rs (suc k) w =
-    ⊎_elim (λ b. omega (arith, start_above rs (suc k) (omega arith), w (suc k - 1) b))
-    (λ b. omega (arith, start_above rs (suc k) (omega arith), ap (λ r. r.boundary) (get_or_past rs (suc k - 1) no_reading b)))
-    (cases_lt (suc k - 1) (length rs))
-
-start_before_end : (n : ℕ) (rs : List Reading) (k : ℕ) → Rising rs → Within n rs → region_start rs k ≤ region_end n rs k
-start_before_end n rs zero up w = omega arith
-start_before_end n rs (suc k) up w =
-    ⊎_elim (λ b. omega (arith, start_above rs (suc k) (omega arith), end_before n rs (suc k) b, up (suc k - 1) (suc k) (omega arith) b))
-    (λ b. omega (arith, end_last n rs (suc k) b, start_within n rs (suc k) w))
-    (cases_lt (suc k) (length rs))
-
 pub regions_ordered : (n : ℕ) (rs : List Reading) (k : ℕ) → Rising rs → Within n rs → Ordered n rs k
-regions_ordered n rs k up w = record {
-  forward = start_before_end n rs k up w;
-  inside = ⊎_elim (λ b. omega (arith, end_before n rs k b, w k b)) (λ b. omega (arith, end_last n rs k b)) (cases_lt k (length rs));
-  joined = λ b. end_before n rs k b ∙ sym (start_above rs (k + 1) (omega arith) ∙ ap (edge rs) (let e : k + 1 - 1 ≡ k = omega arith in e));
-  last = λ e. end_last n rs k (omega arith);
-}
+regions_ordered n rs k up w = grind (arith, common_steps)

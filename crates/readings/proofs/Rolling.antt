@@ -1,12 +1,13 @@
 -- A register that passes its last number begins again at 0: what its advance says of two readings.
-use Rattle.std.proofs.Common.{◌≡◌, ℕ, ◌+◌, ◌-◌, ◌%◌, ◌^◌, ◌<◌, true, ltb, List, length, get_or, ap, ◌∙◌, ⊎_elim, mod-lt, mod-eq_of_lt, arith}
-use native.Mathlib.Nat.{add-mod-mod, add-mod_right, one-le-pow}
+use Rattle.std.proofs.Common.{◌≡◌, ℕ, ◌+◌, ◌-◌, ◌%◌, ◌^◌, ◌<◌, true, ltb, List, length, get_or, ⊎_elim, mod-lt, arith}
+use native.Mathlib.Nat.{one-le-pow}
 use Rattle.std.proofs.lemmas.Bool.{and_parts, ltb-true, cases_Bool, cond-true, cond-false}
 use Rattle.readings.specs.declared.reading.Reading.{Reading}
 use Rattle.readings.specs.Rising.{no_reading}
 use Rattle.constants.specs.Dials.{advance_between}
 use Rattle.readings.specs.Regions.{inner, advance}
 use Rattle.readings.specs.Laws.{Rolls}
+use Rattle.std.proofs.lemmas.Grind.{common_steps}
 
 dials_show : (g : ℕ) → 0 < 10 ^ g
 dials_show g = one-le-pow g 10 (omega arith)
@@ -17,10 +18,7 @@ advance_below g e l = mod-lt (l + 10 ^ g - e) (dials_show g)
 
 -- the dials go from the earlier reading to the later one
 pub advance_arrives : (g earlier later : ℕ) → earlier < 10 ^ g → later < 10 ^ g → (earlier + advance_between g earlier later) % 10 ^ g ≡ later
-advance_arrives g e l below-e below-l =
-    add-mod-mod e (l + 10 ^ g - e) (10 ^ g)
-    ∙ (ap (λ n. n % 10 ^ g) (let s : e + (l + 10 ^ g - e) ≡ l + 10 ^ g = omega arith in s)
-    ∙ (add-mod_right l (10 ^ g) ∙ mod-eq_of_lt below-l))
+advance_arrives g e l below-e below-l = grind (arith, common_steps)
 
 inner_advance : (g : ℕ) (rs : List Reading) (k : ℕ) → inner rs k ≡ true → advance g rs k ≡ advance_between g (get_or rs (k - 1) no_reading).register (get_or rs k no_reading).register
 inner_advance g rs k e = cond-true (inner rs k) _ _ e

@@ -1,9 +1,9 @@
 -- A place that shows its day's spike shows the highest sound count of the day.
-use Rattle.std.proofs.Common.{◌≡◌, ℕ, ◌+◌, ◌-◌, ◌%◌, ◌<◌, ◌≤◌, ◌≢◌, true, List, length, get_or, take, drop, IfSome, Some, None, Option, sym, ap, ◌∙◌, subst, ⊎_elim, add-one, mod-eq_of_lt, arith}
-use native.Mathlib.Nat.{mod-le, mod_self, suc-mod}
+use Rattle.std.proofs.Common.{◌≡◌, ℕ, ◌+◌, ◌-◌, ◌%◌, ◌<◌, ◌≤◌, ◌≢◌, true, List, length, get_or, take, drop, IfSome, Some, None, Option, sym, ap, ◌∙◌, subst, arith}
+use native.Mathlib.Nat.{mod-le}
 use Rattle.std.proofs.lemmas.Nat.{mod_below}
 use Rattle.std.proofs.lemmas.List.{get_or-take, get_or-drop, length-take, length-drop}
-use Rattle.std.proofs.lemmas.Bool.{and_parts, cases_lt, eqb-true, false≢true}
+use Rattle.std.proofs.lemmas.Bool.{and_parts, eqb-true, false≢true}
 use Rattle.intervals.specs.Conditions.{sound}
 use Rattle.intervals.specs.declared.interval.Interval.{Interval}
 use Rattle.held.specs.HeldData.{HeldData, places, interval_at}
@@ -11,15 +11,11 @@ use Rattle.intervals.specs.Intervals.{no_interval}
 use Rattle.peaks.specs.Counts.{shows, spike_of, Highest}
 use Rattle.peaks.proofs.Ranking.{spike_highest}
 use Rattle.usage_rules.specs.Spikes.{midnight, spike_questions, HighestOfDay}
+use Rattle.std.proofs.lemmas.Grind.{common_steps}
 
 -- the next place is of the same day, unless it begins one
 pub same_day : (n i : ℕ) → 0 < n → (i + 1) % n ≢ 0 → i - i % n ≡ i + 1 - (i + 1) % n
-same_day n i some later =
-    let next : (i + 1) % n ≡ (i % n + 1) % n = simp add-one (suc-mod i n) in
-    ⊎_elim
-    (λ l. omega (arith, next, mod-eq_of_lt l))
-    (λ l. absurd (later (next ∙ (let full : i % n + 1 ≡ n = omega (arith, mod_below i n some) in rw full (mod_self n)))))
-    (cases_lt (i % n + 1) n)
+same_day n i some later = grind (arith, common_steps)
 
 shown : (o : Option ℕ) (x : Interval) (P : ℕ → Type 0) → shows o x ≡ true → IfSome o P → P x.pulses
 shown None x P s h = absurd (false≢true s)

@@ -52,6 +52,7 @@ impl<C: ConditionCheck> Rule for C {
 
     ghost meaning = { λ _. condition_questions C.CONDITION };
 
+    #[tactic(auto, using(std::proofs::lemmas::Bool::Decides::nat_tests, std::proofs::lemmas::Option::gets))]
     fn asks(&self, held: &Held<'_>, place: usize) -> bool {
         held.interval(place)
             .is_some_and(|interval| interval.condition == C::CONDITION)

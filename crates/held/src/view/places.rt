@@ -11,19 +11,11 @@ use crate::view::Held;
 use intervals::Interval;
 
 impl<'a> Held<'a> {
-    pub(crate) fn places(&self) -> usize
-        ensures product { result ≡ places (data_of self.now) }
-        ensures whole { result ≡ length (data_of self.now).intervals }
-        ensures few { result ≤ 2976 }
-    {
-        self.cycle.places()
-    }
-
     // Whether the cycle has a place of this number.
     pub fn has_place(&self, place: usize) -> bool
         ensures { result ≡ in_cycle (data_of self.now) place }
     {
-        place < self.places()
+        place < self.cycle.places()
     }
 
     // The interval of a place, if the cycle has one of this number.
@@ -33,6 +25,7 @@ impl<'a> Held<'a> {
         self.intervals.get(place).copied()
     }
 
+    // The place that a region ends before.
     pub fn region_end(&self, region: usize) -> usize
         ensures place { result ≡ region_end (places (data_of self.now)) (data_of self.now).readings region }
         ensures ordered { Ordered (places (data_of self.now)) (data_of self.now).readings region }

@@ -7,6 +7,12 @@ use Rattle.usage_rules.proofs.Adding.{cycle_short, get_or-each, adding}
 use Rattle.usage_rules.proofs.high_low.added_up.Goals as goal
 use Rattle.usage_rules.proofs.high_low.added_up.Goals.{then-is_added, else-is_added}
 
+pub overflow_add-added : goal.overflow_add-added
+overflow_add-added c = omega (arith, cycle_short c.args.held.now, c.loop-place.invariant.2)
+
+pub overflow_add-added-then-is_added : goal.overflow_add-added-then-is_added
+overflow_add-added-then-is_added c = omega (arith, cycle_short c.args.held.now, c.loop-place.invariant.3)
+
 pub loop-place-preserved : goal.loop-place-preserved
 loop-place-preserved c =
     let h = data_of c.args.held.now in
