@@ -5,7 +5,7 @@ ghost use Rattle.constants.specs.Lengths.{length_read, places_of, unknown_length
 use std::error::Error;
 use std::fmt;
 
-#[derive(Clone, Copy, PartialEq, Eq, Debug)]
+#[derive(Clone, Copy)]
 pub enum IntervalLength {
     Hour = 24,
     HalfHour = 48,

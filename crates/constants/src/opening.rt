@@ -14,6 +14,7 @@ use intervals::MOST_PULSES;
 const OUTSIDE: Refusal = Refusal::OpeningOutsideLimits;
 
 impl Cycle {
+    // Plain numbers, as they come from outside: types for them would ask their checks of the caller.
     pub fn new(days: u32, places_a_day: u32, first_weekday: u32) -> Result<Cycle, Fault>
         ensures { result_map_both cycle_sizes (λ f. f) result ≡ opened_cycle days places_a_day first_weekday }
     {

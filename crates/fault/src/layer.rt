@@ -15,6 +15,7 @@ pub enum Layer {
 }
 
 impl Layer {
+    // A method and no `From`: `u8::from(layer)` is no plainer, and drops the word that users know.
     pub fn number(self) -> u8
         ensures { result ≡ layer_number self }
     {

@@ -11,7 +11,7 @@ use std::fmt;
 #[derive(Clone, Copy, PartialEq, Eq, Debug)]
 pub struct Fault {
     pub refusal: Refusal,
-    // a place of the cycle or a region, 0 where the refusal names none
+    // a place of the cycle or a region, 0 where the refusal names none: the number is what a fault prints
     pub position: usize,
     pub layer: Layer,
 }

@@ -37,6 +37,7 @@ pub enum Refusal {
 }
 
 impl Refusal {
+    // A method and no `From`: `u8::from(refusal)` is no plainer, and drops the word that users know.
     pub fn number(self) -> u8
         ensures number { result ≡ refusal_number self }
         ensures apart { NumbersApart }

@@ -5,5 +5,5 @@
 pub mod condition;
 pub mod interval;
 
-pub use condition::Condition;
+pub use condition::{Condition, UnknownCondition};
 pub use interval::{Interval, MOST_PULSES};

@@ -11,7 +11,7 @@ pub fn spike_of(day: &[Interval]) -> Option<u16>
     ensures highest { IfSome result (Highest day.now) }
     ensures ranked { Ranked (sound_counts day.now) }
 {
-    // the counts are counted while they are entered, so that the day is gone through once
+    // a loop, since a chain would go through the day twice, for the ranks and for how many they are
     let mut highest = [0u16; 6];
     let mut sound_places = 0usize;
     for interval in day {

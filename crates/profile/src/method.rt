@@ -10,6 +10,7 @@ pub enum Method {
 }
 
 impl Method {
+    // A method and no `From`: `u8::from(method)` is no plainer, and drops the word that users know.
     pub fn code(self) -> u8
         ensures { result ≡ method_code self }
     {

@@ -13,7 +13,7 @@ use intervals::MOST_PULSES;
 const WEEK: usize = 7;
 
 // The most days of a sheet.
-const MOST_DAYS: u32 = 90;
+const MOST_PAST_DAYS: u32 = 90;
 
 // The most days that a weight is the average of.
 const MOST_AVERAGED: usize = 3;
@@ -23,18 +23,16 @@ const UNFIT: Refusal = Refusal::ReferenceDaysUnfit;
 // A sheet of past days that fits.
 #[derive(Clone, Copy)]
 pub struct ReferenceDays<'a> {
-    // of the cycle's first day: 0 for Monday to 6 for Sunday
+    // of the cycle's first day: 0 for Monday to 6 for Sunday, to be counted on modulo 7
     first_weekday: u8,
     interval: IntervalLength,
-    days: u8,
     // day after day, the newest first, each from midnight on
     counts: &'a [u32],
-    // one for each day, 0 for a usable one
+    // one for each day, 0 for a usable one: bytes beside the counts, as the sheet comes from outside
     marks: &'a [u8],
     ghost weekday: { first_weekday < 7 },
-    ghost few_days: { days ≤ 90 },
-    ghost all_counted: { length counts.now ≡ days * places_of interval },
-    ghost all_marked: { length marks.now ≡ days },
+    ghost few_days: { length marks.now ≤ 90 },
+    ghost all_counted: { length counts.now ≡ length marks.now * places_of interval },
     ghost kept: { IsTrue (counts_kept counts.now) },
 }
 
@@ -42,6 +40,7 @@ impl<'a> ReferenceDays<'a> {
     ghost use Rattle.profile.specs.Laws.{WeekdaysRunBack, WeighsByAverage};
     ghost use Rattle.profile.specs.PastDaysOf.{past_days_of, made_of};
 
+    // Plain numbers, as they come from outside: a type for them would ask their checks of the caller.
     pub fn new(
         first_weekday: u32,
         places_a_day: u32,
@@ -55,7 +54,7 @@ impl<'a> ReferenceDays<'a> {
     {
         let interval = IntervalLength::try_from(places_a_day).map_err(|_| UNFIT)?;
         if (first_weekday as usize) < WEEK
-            && days <= MOST_DAYS
+            && days <= MOST_PAST_DAYS
             && counts.len() == days as usize * interval.places_a_day()
             && marks.len() == days as usize
             && counts_kept(counts)
@@ -63,7 +62,6 @@ impl<'a> ReferenceDays<'a> {
             Ok(ReferenceDays {
                 first_weekday: first_weekday as u8,
                 interval,
-                days: days as u8,
                 counts,
                 marks,
             })
@@ -84,23 +82,23 @@ impl ReferenceDays<'_> {
     }
 
     // Whether a place of the weekday may be weighed by the day.
-    fn is_similar(&self, weekday: usize, day: u8) -> bool
-        requires { day < self.now.days }
+    fn is_similar(&self, weekday: usize, day: usize) -> bool
+        requires { day < length self.now.marks.now }
         ensures { result ≡ similar (past_days_of self.now) weekday day }
     {
         // a day back in the week is six days on
-        let weekday_back = (usize::from(self.first_weekday) + 6 * (usize::from(day) + 1)) % WEEK;
-        self.marks[usize::from(day)] == 0 && weekday_back == weekday
+        let weekday_back = (usize::from(self.first_weekday) + 6 * (day + 1)) % WEEK;
+        self.marks[day] == 0 && weekday_back == weekday
     }
 
     // What was counted on the day at the time of day of the place.
-    fn count_on(&self, place: usize, day: u8) -> u32
-        requires { day < self.now.days }
+    fn count_on(&self, place: usize, day: usize) -> u32
+        requires { day < length self.now.marks.now }
         ensures count { result ≡ count_on (past_days_of self.now) (time_of_day (past_days_of self.now) place) day }
         ensures kept { result ≤ 65535 }
     {
         let places = self.interval.places_a_day();
-        self.counts[usize::from(day) * places + place % places]
+        self.counts[day * places + place % places]
     }
 
     // The counts that a place is weighed by: their total, and how many they are.
@@ -109,7 +107,7 @@ impl ReferenceDays<'_> {
         ensures kept { result.0 ≤ 65535 * result.1 }
     {
         let weekday = self.weekday_at(place);
-        let newest_days = (0..self.days)
+        let newest_days = (0..self.marks.len())
             .filter(|day| self.is_similar(weekday, *day))
             .take(MOST_AVERAGED);
         let mut total = 0;

@@ -51,7 +51,8 @@ impl Readings {
         readings.partition_point(|reading| usize::from(reading.boundary) <= place)
     }
 
-    // How far the register went over the region, in units; 0 of an outer region.
+    // How far the register went over the region, in units; 0 of an outer region, as in the definition.
+    #[tactic(auto, using(crate::proofs::Rolling::region_rolls))]
     pub fn advance(&self, region: usize, register: &Register) -> u32
         ensures units { result ≡ advance register.now.dials (rows self.now) region }
         ensures few { result < 1000000 }

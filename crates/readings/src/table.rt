@@ -9,6 +9,8 @@ mod entering;
 // The most readings that a table takes.
 const MOST_READINGS: usize = 32;
 
+// An array with a count: what a book holds lies in fixed memory, with nothing on the heap, and the table is copied whole,
+// as no `ArrayVec` is.
 #[derive(Clone, Copy)]
 pub struct Readings {
     entries: [Reading; MOST_READINGS],

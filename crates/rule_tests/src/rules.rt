@@ -1,5 +1,5 @@
 // Whole cycles put to the rules.
-ghost use Rattle.std.specs.Prelude.{◌≡◌, ◌*◌, length};
+ghost use Rattle.std.specs.Prelude.{◌≡◌, ◌*◌, ◌+◌, ◌<◌};
 
 use constants::{Cycle, Register, Usage};
 use held::Held;
@@ -37,10 +37,15 @@ fn questioned<R: Rule>(rule: &R, held: &Held<'_>) -> (Option<usize>, usize) {
     (first, count)
 }
 
-// Puts a cycle with one spike and one overflow to the rules, with past usage of 24 pulses a place and no readings.
-fn check_day(rt: &impl Abort, cycle: Cycle, intervals: &[Interval], spike: usize, overflow: usize)
-    requires { length intervals.now ≡ cycle.days * cycle.places_a_day }
+// Puts a cycle of N places to the rules, with one spike and one overflow after it, past usage of 24 pulses a place and
+// no readings.
+fn check_day<const N: usize>(rt: &impl Abort, cycle: Cycle, spike: usize)
+    requires size { N ≡ cycle.days * cycle.places_a_day }
+    requires room { spike + 1 < N }
 {
+    let mut intervals = [GOOD; N];
+    intervals[spike] = SPIKE;
+    intervals[spike + 1] = OVERFLOW;
     let readings = Readings::new();
     let register = Register {
         dials: 5,
@@ -54,11 +59,11 @@ fn check_day(rt: &impl Abort, cycle: Cycle, intervals: &[Interval], spike: usize
         cycle,
         register,
         past,
-        intervals,
+        intervals: &intervals,
         readings: &readings,
     };
     assert_eq!(rt; questioned(&SpikeCheck, &held), (Some(spike), 1));
-    assert_eq!(rt; questioned(&OverflowCheck, &held), (Some(overflow), 1));
+    assert_eq!(rt; questioned(&OverflowCheck, &held), (Some(spike + 1), 1));
     assert_eq!(rt; questioned(&TestModeCheck, &held), (None, 0));
     assert_eq!(rt; questioned(&SumCheck, &held), (None, 0));
     assert_eq!(rt; questioned(&HighLowCheck, &held), (None, 0));
@@ -66,56 +71,32 @@ fn check_day(rt: &impl Abort, cycle: Cycle, intervals: &[Interval], spike: usize
 
 #[test]
 fn hours(rt: HostRuntime) {
-    let mut intervals = [GOOD; 24];
-    intervals[7] = SPIKE;
-    intervals[8] = OVERFLOW;
-    check_day(
-        &rt,
-        Cycle {
-            days: 1,
-            places_a_day: 24,
-            first_weekday: 0,
-        },
-        &intervals,
-        7,
-        8,
-    );
+    let cycle = Cycle {
+        days: 1,
+        places_a_day: 24,
+        first_weekday: 0,
+    };
+    check_day::<24>(&rt, cycle, 7);
 }
 
 #[test]
 fn half_hours(rt: HostRuntime) {
-    let mut intervals = [GOOD; 96];
-    intervals[60] = SPIKE;
-    intervals[61] = OVERFLOW;
-    check_day(
-        &rt,
-        Cycle {
-            days: 2,
-            places_a_day: 48,
-            first_weekday: 6,
-        },
-        &intervals,
-        60,
-        61,
-    );
+    let cycle = Cycle {
+        days: 2,
+        places_a_day: 48,
+        first_weekday: 6,
+    };
+    check_day::<96>(&rt, cycle, 60);
 }
 
 #[test]
 fn quarter_hours(rt: HostRuntime) {
-    let mut intervals = [GOOD; 192];
-    intervals[96] = SPIKE;
-    intervals[97] = OVERFLOW;
-    check_day(
-        &rt,
-        Cycle {
-            days: 2,
-            places_a_day: 96,
-            first_weekday: 2,
-        },
-        &intervals,
-        96,
-        97,
-    );
+    let cycle = Cycle {
+        days: 2,
+        places_a_day: 96,
+        first_weekday: 2,
+    };
+    check_day::<192>(&rt, cycle, 96);
 }
 
 // 99968 to 00294 on five dials: an advance of 326 units. One count is from a test, and the others are well above past

@@ -11,7 +11,7 @@ use fault::{Fault, Refusal};
 use profile::Profile;
 
 // Shares the amount over the open places of a part by the profile's weights. `states` and `values` are those of the
-// part's places, and its place j is place `first + j` of the cycle.
+// part's places, lent apart since only values are written; its place j is place `first + j` of the cycle.
 pub fn share<P: Profile>(
     profile: &P,
     first: usize,

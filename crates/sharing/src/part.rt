@@ -37,8 +37,11 @@ impl<'a> Part<'a> {
     {
         let mut whole = 0;
         for (place, state) in (self.first..).zip(self.states) {
-            let weight = weight_at(profile, place, *state);
-            whole += u32::from(weight.ok_or(Fault::at(Refusal::PlaceWithoutWeight, place))?);
+            let weight = weight_at(profile, place, *state).ok_or(Fault::at(
+                Refusal::PlaceWithoutWeight,
+                place,
+            ))?;
+            whole += u32::from(weight);
         }
         Ok(whole)
     }

@@ -20,8 +20,8 @@ impl Status {
     }
 }
 
-// What a book keeps of a place: three bytes, and nothing on the heap. So the marks are bits, and the code is the number
-// that the profile itself gave.
+// What a book keeps of a place: three bytes, and nothing on the heap. So the marks are bits. The code is the number that
+// the profile itself gave, and stands beside the status, as in the definition of a book, where every place has one.
 #[derive(Clone, Copy)]
 pub struct State {
     pub status: Status,

@@ -65,7 +65,7 @@ fn added_up(held: &Held<'_>) -> Added
         places: 0,
         pulses: 0,
     };
-    // a place has the same index among the spikes
+    // by index: with a `zip` of the spikes the totals stay open
     for (place, interval) in held.intervals.iter().enumerate() {
         if is_added(*interval, spikes[place]) {
             let count = interval.pulses;

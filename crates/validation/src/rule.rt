@@ -7,7 +7,8 @@ ghost use Rattle.validation.specs.Places.{each};
 use held::Held;
 
 pub trait Rule {
-    // The rule's own number: the bit that it sets at a place.
+    // The rule's own number: the bit that it sets at a place. A number and no enum, since a rule of another crate has
+    // one of its own.
     const NUMBER: u8;
 
     ghost NUMBER: { ℕ };
@@ -15,6 +16,7 @@ pub trait Rule {
     // Whether the rule questions a place of the data held.
     ghost meaning: { Self → HeldData → ℕ → Bool };
 
+    // The two parameters are the question: a type for them would be no plainer.
     fn asks(&self, held: &Held<'_>, place: usize) -> bool
         ensures value { result ≡ meaning self.now (data_of held.now) place }
         ensures past { places (data_of held.now) ≤ place → result ≡ false };

@@ -16,12 +16,8 @@ impl Readings {
     pub fn new() -> Readings
         ensures { rows result ≡ [] }
     {
-        let none = Reading {
-            boundary: 0,
-            register: 0,
-        };
         Readings {
-            entries: [none; MOST_READINGS],
+            entries: [Reading::default(); MOST_READINGS],
             count: 0,
         }
     }
