@@ -14,15 +14,18 @@ abbrev pub waiting_for : ℕ → Waiting
 waiting_for number = record { number = number }
 
 -- a refusal hands the waiting call back as it was
-abbrev pub turned_down : Waiting → Refusal → Unanswered
-turned_down w r = record { call = w; fault = fault_at r 0 }
+abbrev pub handed_back : Waiting → Refusal → Unanswered
+handed_back w r = record { call = w; fault = fault_at r 0 }
+
+abbrev pub turned_down : Waiting → Refusal → Result Identified Unanswered
+turned_down w r = Err (handed_back w r)
 
 -- the device's clock is checked first, then the number that answered
 abbrev pub identified : Waiting → Clocks → ℕ → Result Identified Unanswered
 identified w c answered =
-    if device_off c then Err (turned_down w DeviceClockOff)
+    if device_off c then turned_down w DeviceClockOff
     else if answered == w.number then Ok (record { number = w.number; drift = drift_of c })
-    else Err (turned_down w OtherMeterAnswered)
+    else turned_down w OtherMeterAnswered
 
 abbrev pub hung_up : Identified → Over
 hung_up i = record { number = i.number; drift = i.drift }

@@ -1,6 +1,6 @@
 // A call that is dialled and not answered yet.
 ghost use Rattle.std.specs.Prelude.{◌≡◌};
-ghost use Rattle.call.specs.Stages.{waiting_for, turned_down, identified};
+ghost use Rattle.call.specs.Stages.{waiting_for, handed_back, identified};
 
 use crate::clocks::Clocks;
 use crate::identified::Identified;
@@ -35,10 +35,10 @@ impl Waiting {
         ensures { result ≡ identified self clocks answered }
     {
         if clocks.device_is_off() {
-            return Err(self.turned_down(Refusal::DeviceClockOff));
+            return Err(self.handed_back(Refusal::DeviceClockOff));
         }
         if answered != self.number {
-            return Err(self.turned_down(Refusal::OtherMeterAnswered));
+            return Err(self.handed_back(Refusal::OtherMeterAnswered));
         }
         Ok(Identified {
             number: self.number,
@@ -46,9 +46,9 @@ impl Waiting {
         })
     }
 
-    // Hands the waiting call back as it was.
-    fn turned_down(self, refusal: Refusal) -> Unanswered
-        ensures { result ≡ turned_down self refusal }
+    // The waiting call as it was, with the reason.
+    fn handed_back(self, refusal: Refusal) -> Unanswered
+        ensures { result ≡ handed_back self refusal }
     {
         Unanswered {
             call: self,

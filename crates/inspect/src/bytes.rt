@@ -13,7 +13,7 @@ pub(crate) fn block_bytes<R: Read + Drop>(input: R, heap: Global) -> io::Result<
     ensures bound { IfOk result (λ v. vec_len v ≤ 327680) }
     ensures value { IfOk result (λ v. IfSome (R.remaining input) (λ xs. v.items ≡ take 327680 xs)) }
 {
-    let mut bytes = Vec::new(heap);
+    let mut bytes = Vec::with_capacity(heap, MOST_BYTES)?;
     input.take(MOST_BYTES as u64).read_to_end(&mut bytes)?;
     // Cuts nothing off. The library says how much `take` gives only where a reader's bytes are known.
     bytes.truncate(MOST_BYTES);

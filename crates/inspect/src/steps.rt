@@ -48,11 +48,12 @@ impl<W: Write> Inspection<W> {
         let first = stretch.first();
         let count = stretch.count();
         writeln!(self.out, "first place {first}, {count} places")?;
-        let intervals: Vec<Interval> = (0..count)
-            .filter_map(|i| stretch.interval(i))
-            .collect(self.heap)?;
-        for (place, Interval { pulses, condition }) in (usize::from(first)..).zip(&intervals) {
+        let delivered = (0..count).filter_map(|i| stretch.interval(i));
+        let mut intervals = Vec::new(self.heap);
+        for (place, interval) in (usize::from(first)..).zip(delivered) {
+            let Interval { pulses, condition } = interval;
             writeln!(self.out, "place {place}: {pulses} pulses, {condition}")?;
+            intervals.push(interval)?;
         }
         Ok(intervals)
     }

@@ -1,5 +1,5 @@
 -- The days that the pass over a sheet picks, and what it adds up over them.
-use Rattle.std.proofs.Common.{◌≡◌, ℕ, ◌<◌, Bool, List, length, take, map, sum, filter, Bor, map-id, arith}
+use Rattle.std.proofs.Common.{◌≡◌, ℕ, Bool, List, length, take, map, sum, filter, Bor, map-id}
 use Rattle.std.proofs.Math.Nat.{sub-zero}
 use denote.Param.Members.{Mut}
 use Rattle.std.specs.declared.iter.Filter.{Filter}
@@ -7,11 +7,9 @@ use Rattle.std.specs.declared.iter.Take.{Take}
 use Rattle.std.specs.declared.ops.Range.{Range}
 use Rattle.std.specs.Fn.{CalledAt}
 use Rattle.std.specs.Iterator.Adapters.{filter_source, filter_callee, filter_steps, take_source, take_count, take_steps}
-use Rattle.std.specs.List.{range_with_len, All}
+use Rattle.std.specs.List.{range_with_len}
 use Rattle.std.proofs.iter.Yields.{nat_range_steps}
 use Rattle.std.proofs.lemmas.List.{length-map}
-use Rattle.std.proofs.lemmas.List.Elements.{All-take, All-filter}
-use Rattle.std.proofs.lemmas.List.FromFn.{length-range_with_len, get_or-range_with_len}
 use Rattle.std.proofs.lemmas.Iterator.{YieldsList, YieldsList-from_range, YieldsList-from_take}
 use Rattle.std.proofs.lemmas.Iterator.Consumers.{YieldsList-at, YieldsList-from_filter}
 
@@ -28,12 +26,6 @@ pub newest_given : {F : Type 0} (g : Mut F (Bor ℕ × Unit {0}) Bool) (p : ℕ 
 newest_given g p n days callee calls passing three same =
     let similar_days = YieldsList-from_filter g p (YieldsList-from_range 0 n n days (sub-zero n)) callee calls
     in YieldsList-at same (YieldsList-from_take 3 (YieldsList-at passing similar_days) three)
-
-pub newest_within : (p : ℕ → Bool) (n : ℕ) → All (λ j. j < n) (newest_of p n)
-newest_within p n =
-    All-take (λ j. j < n) 3 _ (All-filter p (λ j. j < n) _ (λ k d h.
-    let k_within : k < n = omega (arith, length-range_with_len 0 n)
-    in omega (arith, get_or-range_with_len 0 n k d k_within)))
 
 -- what was added up and counted over the days that were given is the sum and the number of their counts
 pub tallied : (count : ℕ → ℕ) (given days : List ℕ) (total found : ℕ) → map (λ j. j) given ≡ days → total ≡ sum (map count given) → found ≡ length given → ◌≡◌ {A = ℕ × ℕ} (total, found) (sum (map count days), length (map count days))

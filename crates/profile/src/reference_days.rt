@@ -82,23 +82,25 @@ impl ReferenceDays<'_> {
     }
 
     // Whether a place of the weekday may be weighed by the day.
-    fn is_similar(&self, weekday: usize, day: usize) -> bool
-        requires { day < length self.now.marks.now }
+    fn is_similar(&self, weekday: usize, day: u8) -> bool
         ensures { result ≡ similar (past_days_of self.now) weekday day }
     {
         // a day back in the week is six days on
-        let weekday_back = (usize::from(self.first_weekday) + 6 * (day + 1)) % WEEK;
-        self.marks[day] == 0 && weekday_back == weekday
+        let weekday_back = (usize::from(self.first_weekday) + 6 * (usize::from(day) + 1)) % WEEK;
+        self.marks
+            .get(usize::from(day))
+            .is_some_and(|mark| *mark == 0)
+            && weekday_back == weekday
     }
 
     // What was counted on the day at the time of day of the place.
-    fn count_on(&self, place: usize, day: usize) -> u32
-        requires { day < length self.now.marks.now }
+    fn count_on(&self, place: usize, day: u8) -> u32
         ensures count { result ≡ count_on (past_days_of self.now) (time_of_day (past_days_of self.now) place) day }
         ensures kept { result ≤ 65535 }
     {
         let places = self.interval.places_a_day();
-        self.counts[day * places + place % places]
+        let index = usize::from(day) * places + place % places;
+        self.counts.get(index).copied().unwrap_or(0)
     }
 
     // The counts that a place is weighed by: their total, and how many they are.
@@ -107,7 +109,7 @@ impl ReferenceDays<'_> {
         ensures kept { result.0 ≤ 65535 * result.1 }
     {
         let weekday = self.weekday_at(place);
-        let newest_days = (0..self.marks.len())
+        let newest_days = (0..self.marks.len() as u8)
             .filter(|day| self.is_similar(weekday, *day))
             .take(MOST_AVERAGED);
         let mut total = 0;

@@ -10,5 +10,5 @@ cut_again n (Some xs) read cut whole e = e ∙ ap (take n) whole ∙ take-take n
 
 pub returns-clause-value : goal.returns-clause-value
 returns-clause-value g c =
-    let read = rw (c.take.ensures.limit, c.take.ensures.inner, c.new-bytes.ensures.items) at c.in_ok-read_to_end.ensures.bytes in
+    let read = rw (c.take.ensures.limit, c.take.ensures.inner, c.in_ok-bytes.ensures.items) at c.in_ok-read_to_end.ensures.bytes in
     cut_again 327680 (g.R.Read.remaining c.args.input) _ _ read c.truncate.ensures.items

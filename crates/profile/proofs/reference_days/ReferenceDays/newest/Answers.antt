@@ -1,16 +1,9 @@
-use Rattle.std.proofs.Common.{length, rules, tests, arith}
-use Rattle.std.proofs.lemmas.Iterator.Consumers.{YieldsList-turn, YieldsList-end}
+use Rattle.std.proofs.Common.{rules, tests}
+use Rattle.std.proofs.lemmas.Iterator.Consumers.{YieldsList-end}
 use Rattle.profile.specs.Averages.{weekday_at, similar, count_on, time_of_day}
 use Rattle.profile.specs.PastDaysOf.{past_days_of}
-use Rattle.profile.proofs.Newest.{newest_given, newest_within, tallied}
+use Rattle.profile.proofs.Newest.{newest_given, tallied}
 use Rattle.profile.proofs.reference_days.ReferenceDays.newest.Goals as goal
-
-pub count_on-total-requires : goal.count_on-total-requires
-count_on-total-requires c =
-    let d = past_days_of c.args.self.now
-    in let p = similar d (weekday_at d c.args.place)
-    in let turn = YieldsList-turn (newest_given _ p d.days c.filter.ensures.source c.filter.ensures.closure (λ x b q k. search (rules, tests)) c.take-newest_days.ensures.source c.take-newest_days.ensures.count c.into_iter-day-iterator.ensures.into_iter_gives) c.loop-day.yielded _ c.loop-day.yielded_by _ _ _ c.in-Some.is c.next.ensures.steps
-    in omega (arith, turn.1, newest_within p d.days (length c.loop-day.yielded) c.in-Some.day turn.0)
 
 pub returns-clause-counts : goal.returns-clause-counts
 returns-clause-counts c =

@@ -1,4 +1,4 @@
-use Rattle.std.proofs.Common.{◌≡◌, sym, ap, ◌∙◌, subst, rules}
+use Rattle.std.proofs.Common.{◌≡◌, arith, sym, ap, ◌∙◌, subst, rules}
 use Rattle.std.proofs.lemmas.List.Sorted.{IsPartitionPoint-from_clause}
 use Rattle.readings.specs.Rising.{Rising}
 use Rattle.readings.specs.Rows.{rows}
@@ -17,6 +17,6 @@ returns c =
     let point = IsPartitionPoint-from_clause (stands_by place) readings _ c.partition_point.ensures.partitioned (partitioned readings place rising) (λ a r f k. search rules) in
     let count : c.partition_point.result ≡ region_at (rows c.args.self.now) place = partition_counts readings place _ c.partition_point.ensures.bound point ∙ ap (λ rs. region_at rs place) held in
     record {
-      count = count;
-      only = λ n h. subst (λ k. OnlyRegion n (rows c.args.self.now) place k) (sym count) (region_covers n (rows c.args.self.now) place c.args.self.now.rising h);
+      count = omega (arith, count);
+      only = λ n h. subst (λ k. OnlyRegion n (rows c.args.self.now) place k) (omega (arith, count)) (region_covers n (rows c.args.self.now) place c.args.self.now.rising h);
     }
