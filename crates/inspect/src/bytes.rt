@@ -13,7 +13,8 @@ pub(crate) fn block_bytes<R: Read + Drop>(input: R, heap: Global) -> io::Result<
     ensures bound { IfOk result (λ v. vec_len v ≤ 327680) }
     ensures value { IfOk result (λ v. IfSome (R.remaining input) (λ xs. v.items ≡ take 327680 xs)) }
 {
-    let mut bytes = Vec::with_capacity(heap, MOST_BYTES)?;
+    // With a byte to spare, or reading would ask for more memory before it sees that nothing is left to take.
+    let mut bytes = Vec::with_capacity(heap, MOST_BYTES + 1)?;
     input.take(MOST_BYTES as u64).read_to_end(&mut bytes)?;
     // Cuts nothing off. The library says how much `take` gives only where a reader's bytes are known.
     bytes.truncate(MOST_BYTES);

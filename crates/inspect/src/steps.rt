@@ -48,7 +48,7 @@ impl<W: Write> Inspection<W> {
         let first = stretch.first();
         let count = stretch.count();
         writeln!(self.out, "first place {first}, {count} places")?;
-        let delivered = (0..count).filter_map(|i| stretch.interval(i));
+        let delivered = (0..count).map_while(|i| stretch.interval(i));
         let mut intervals = Vec::new(self.heap);
         for (place, interval) in (usize::from(first)..).zip(delivered) {
             let Interval { pulses, condition } = interval;
