@@ -20,7 +20,12 @@ impl Register {
         ensures some { 0 < result }
         ensures few { result ≤ 1000000 }
     {
-        10u32.pow(u32::from(self.dials))
+        // written out: `pow` is a loop, by which the sum rule would take half as long again to answer for a place
+        match self.dials {
+            4 => 10_000,
+            5 => 100_000,
+            _ => 1_000_000,
+        }
     }
 
     // How far the dials went from one reading to a later one.
