@@ -54,7 +54,9 @@ impl<C: ConditionCheck> Rule for C {
 
     #[tactic(auto, using(std::proofs::lemmas::Bool::Decides::nat_tests, std::proofs::lemmas::Option::gets))]
     fn asks(&self, held: &Held<'_>, place: usize) -> bool {
-        held.interval(place)
+        // looked at where it lies: with a copy of it a pass over the cycle would take a quarter longer
+        held.intervals
+            .get(place)
             .is_some_and(|interval| interval.condition == C::CONDITION)
     }
 }

@@ -27,6 +27,8 @@ impl Rule for SumCheck {
         ensures filled { answers.new ≡ each (length answers.old) (sum_questions (data_of held.now)) }
         ensures alike { (i : ℕ) → AlikeInRegion (data_of held.now) i }
     {
+        // once, since the product would be made again after each write
+        let places = held.cycle.places();
         let mut questioned = false;
         // where the region at hand ends
         let mut end = 0;
@@ -36,7 +38,7 @@ impl Rule for SumCheck {
                 questioned = is_region_questioned(held, region);
                 end = held.region_end(region);
             }
-            *answer = held.has_place(place) && questioned;
+            *answer = place < places && questioned;
         }
     }
 }

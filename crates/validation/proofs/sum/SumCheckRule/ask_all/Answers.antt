@@ -5,24 +5,21 @@ use Rattle.validation.specs.Sums.{sum_questions}
 use Rattle.validation.proofs.Alike.{AtHand, same_region, begun}
 use Rattle.validation.proofs.Filled.{filling}
 use Rattle.validation.proofs.sum.SumCheckRule.ask_all.Goals as goal
-use Rattle.validation.proofs.sum.SumCheckRule.ask_all.Goals.{Joined-has_place, then-place-end, else-place-end}
-
-at_hand : (c : Joined-has_place) → AtHand (data_of c.args.held.now) c.loop-place.place c.if-place-end.end c.if-place-end.questioned
-at_hand c =
-    let h : Held = c.args.held.now in
-    elim c.if-place-end.branch [
-      | then-place-end w ↦
-          rw (w.end-is, w.questioned-is, w.region_end-end.ensures.place, w.is_region_questioned-questioned.ensures, w.region_of-region.ensures.count)
-          (begun (data_of h) c.loop-place.place h.readings.now.rising h.within)
-      | else-place-end w ↦
-          rw (w.end-is, w.questioned-is) (λ inside. omega (arith, c.loop-place.invariant.1.0), c.loop-place.invariant.1.1)
-    ]
+use Rattle.validation.proofs.sum.SumCheckRule.ask_all.Goals.{then-place-end, else-place-end}
 
 pub loop-place-preserved : goal.loop-place-preserved
 loop-place-preserved c =
+    let h : Held = c.args.held.now in
     let i : ℕ = c.loop-place.place in
-    let at = at_hand c in
-    let right : c.if-has_place.answer ≡ sum_questions (data_of c.args.held.now) i = grind (arith, at.0, at.1 i) in
+    let at : AtHand (data_of h) i c.if-place-end.end c.if-place-end.questioned =
+    elim c.if-place-end.branch [
+      | then-place-end w ↦
+          rw (w.end-is, w.questioned-is, w.region_end-end.ensures.place, w.is_region_questioned-questioned.ensures, w.region_of-region.ensures.count)
+          (begun (data_of h) i h.readings.now.rising h.within)
+      | else-place-end w ↦
+          rw (w.end-is, w.questioned-is) (λ inside. omega (arith, c.loop-place.invariant.1.0), c.loop-place.invariant.1.1)
+    ] in
+    let right : c.if-place-places.answer ≡ sum_questions (data_of h) i = grind (arith, at.0, at.1 i) in
     (grind (arith, filling), (λ inside. omega (arith, at.0), λ j l m. at.1 j (omega arith) m))
 
 pub returns : goal.returns
