@@ -104,6 +104,8 @@ impl ReferenceDays<'_> {
     }
 
     // The counts that a place is weighed by: their total, and how many they are.
+    // Not inlined: within `share`, passing over a day would take half as long again.
+    #[inline(never)]
     fn newest(&self, place: usize) -> (u32, u32)
         ensures counts { result ≡ (sum (reference_counts (past_days_of self.now) place), length (reference_counts (past_days_of self.now) place)) }
         ensures kept { result.0 ≤ 65535 * result.1 }
