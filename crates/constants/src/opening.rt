@@ -18,13 +18,13 @@ impl Cycle {
     pub fn new(days: u32, places_a_day: u32, first_weekday: u32) -> Result<Cycle, Fault>
         ensures { result_map_both cycle_sizes (λ f. f) result ≡ opened_cycle days places_a_day first_weekday }
     {
-        let length = IntervalLength::try_from(places_a_day).map_err(|_| OUTSIDE)?;
+        IntervalLength::try_from(places_a_day).map_err(|_| OUTSIDE)?;
         if !(1..=MOST_DAYS).contains(&days) || first_weekday > 6 {
             return Err(OUTSIDE.into());
         }
         Ok(Cycle {
             days: days as usize,
-            places_a_day: length.places_a_day(),
+            places_a_day: places_a_day as usize,
             first_weekday: first_weekday as usize,
         })
     }
