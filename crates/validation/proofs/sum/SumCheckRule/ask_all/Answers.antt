@@ -1,4 +1,4 @@
-use Rattle.std.proofs.Common.{◌≡◌, ℕ, arith}
+use Rattle.std.proofs.Common.{◌≡◌, ℕ, ◌&&◌, ltb, arith}
 use Rattle.held.specs.DataOf.{data_of}
 use Rattle.held.specs.declared.view.Held.{Held}
 use Rattle.validation.specs.Sums.{sum_questions}
@@ -19,7 +19,7 @@ loop-place-preserved c =
       | else-place-end w ↦
           rw (w.end-is, w.questioned-is) (λ inside. omega (arith, c.loop-place.invariant.1.0), c.loop-place.invariant.1.1)
     ] in
-    let right : c.if-place-places.answer ≡ sum_questions (data_of h) i = grind (arith, at.0, at.1 i) in
+    let right : (ltb i c.places-places.result && c.if-place-end.questioned) ≡ sum_questions (data_of h) i = grind (arith, at.0, at.1 i) in
     (grind (arith, filling), (λ inside. omega (arith, at.0), λ j l m. at.1 j (omega arith) m))
 
 pub returns : goal.returns
