@@ -93,13 +93,19 @@ impl ReferenceDays<'_> {
             && weekday_back == weekday
     }
 
-    // What was counted on the day at the time of day of the place.
-    fn count_on(&self, place: usize, day: u8) -> u32
-        ensures count { result ≡ count_on (past_days_of self.now) (time_of_day (past_days_of self.now) place) day }
+    // No day has more than 96 places.
+    fn time_of_day(&self, place: usize) -> u8
+        ensures { result ≡ time_of_day (past_days_of self.now) place }
+    {
+        (place % self.interval.places_a_day()) as u8
+    }
+
+    // What was counted on the day at a time of day.
+    fn count_on(&self, time: u8, day: u8) -> u32
+        ensures count { result ≡ count_on (past_days_of self.now) time day }
         ensures kept { result ≤ 65535 }
     {
-        let places = self.interval.places_a_day();
-        let index = usize::from(day) * places + place % places;
+        let index = usize::from(day) * self.interval.places_a_day() + usize::from(time);
         self.counts.get(index).copied().unwrap_or(0)
     }
 
@@ -111,6 +117,7 @@ impl ReferenceDays<'_> {
         ensures kept { result.0 ≤ 65535 * result.1 }
     {
         let weekday = self.weekday_at(place);
+        let time = self.time_of_day(place);
         let newest_days = (0..self.marks.len() as u8)
             .filter(|day| self.is_similar(weekday, *day))
             .take(MOST_AVERAGED);
@@ -118,7 +125,7 @@ impl ReferenceDays<'_> {
         let mut found = 0;
         // a loop, since what a `map` or a `fold` behind `take` asks of its closure is not proved
         for day in newest_days {
-            total += self.count_on(place, day);
+            total += self.count_on(time, day);
             found += 1;
         }
         (total, found)
