@@ -18,6 +18,7 @@ impl Cycle {
     pub fn new(days: u32, places_a_day: u32, first_weekday: u32) -> Result<Cycle, Fault>
         ensures { result_map_both cycle_sizes (λ f. f) result ≡ opened_cycle days places_a_day first_weekday }
     {
+        // only whether there is such a length: the number itself is kept
         IntervalLength::try_from(places_a_day).map_err(|_| OUTSIDE)?;
         if !(1..=MOST_DAYS).contains(&days) || first_weekday > 6 {
             return Err(OUTSIDE.into());

@@ -20,7 +20,7 @@ impl Register {
         ensures some { 0 < result }
         ensures few { result ≤ 1000000 }
     {
-        // written out: `pow` is a loop, by which the sum rule would take half as long again to answer for a place
+        // written out, since `pow` is a loop, and a rule that is asked place by place comes here each time
         match self.dials {
             4 => 10_000,
             5 => 100_000,

@@ -48,6 +48,7 @@ impl<W: Write> Inspection<W> {
         let first = stretch.first();
         let count = stretch.count();
         writeln!(self.out, "first place {first}, {count} places")?;
+        // each of these places has an interval: `filter_map` would look for the next that has one
         let delivered = (0..count).map_while(|i| stretch.interval(i));
         let mut intervals = Vec::new(self.heap);
         for (place, interval) in (usize::from(first)..).zip(delivered) {

@@ -38,7 +38,7 @@ impl Rule for SumCheck {
                 questioned = is_region_questioned(held, region);
                 end = held.region_end(region);
             }
-            // by `&`, so that no turn branches
+            // `&` and no `&&`: the answer takes no branch
             *answer = (place < places) & questioned;
         }
     }
